@@ -1,0 +1,57 @@
+-- The definitions, computed: one table of cases and one statement. P7, P8 and P9 are the trace cards'; the rest are corners.
+use mathlib.Core.Path.{_≡_, refl}
+use mathlib.Core.Bool.{Bool, true, false}
+use mathlib.Core.List.{List, [], _∷_, map}
+use Prim.Native.Nat.{ℕ, suc, _+_, _-_, _^_, _<_, _≤_}
+use native.Mathlib.Omega.{arith}
+use lib.Dec.{ltb, lit≤}
+use lib.IntN.{pos, negsuc}
+use mir.Syntax.{Width, w8, w16}
+use mir.Val.{toZ, sel, bits}
+use Rattle.word.specs.Word.{pick, asWord, applyOf, holdsOf, flagOf, extendOf}
+use Rattle.word.specs.declared.Op.{Op}
+use Rattle.word.specs.declared.Op.the-variants.{Add, Rsub, Sll, Sra, Mulh, Mulhsu, Mulhu, Div, Divu, Rem, Remu, Max, Maxu, Sle, Sgtu, Move}
+use Rattle.word.specs.declared.Cond.the-variants.{Lt, Ltu}
+
+pub record Case : Type 0 where
+  pub got : ℕ
+  pub is : ℕ
+
+infixr 68 _gives_
+abbrev pub _gives_ : ℕ → ℕ → Case
+a gives b = record { got = a; is = b }
+
+abbrev pub cases : List Case
+cases =
+    -- P7: vs1 = -1, vs2 = 0: VBLT taken, VBLTU not
+    flagOf (holdsOf Lt 0xffffffff 0) gives 1 ∷ flagOf (holdsOf Ltu 0xffffffff 0) gives 0
+    -- P8
+    ∷ applyOf Add 0xffffffff 1 gives 0
+    -- P9: by zero, and -2^31 by -1
+    ∷ applyOf Div 7 0 gives 0xffffffff ∷ applyOf Rem 7 0 gives 7
+    ∷ applyOf Div 0x80000000 0xffffffff gives 0x80000000 ∷ applyOf Rem 0x80000000 0xffffffff gives 0
+    ∷ applyOf Div 0xfffffff9 2 gives 0xfffffffd ∷ applyOf Rem 0xfffffff9 2 gives 0xffffffff
+    ∷ applyOf Divu 7 0 gives 0xffffffff ∷ applyOf Remu 7 0 gives 7
+    ∷ applyOf Rsub 1 3 gives 2 ∷ applyOf Sll 1 33 gives 2 ∷ applyOf Sra 0x80000000 31 gives 0xffffffff
+    ∷ applyOf Mulh 0xffffffff 0xffffffff gives 0 ∷ applyOf Mulhsu 0xffffffff 0xffffffff gives 0xffffffff
+    ∷ applyOf Mulhu 0xffffffff 0xffffffff gives 0xfffffffe
+    ∷ applyOf Max 0xffffffff 0 gives 0 ∷ applyOf Maxu 0xffffffff 0 gives 0xffffffff
+    ∷ applyOf Sle 5 5 gives 1 ∷ applyOf Sgtu 5 5 gives 0 ∷ applyOf Move 1 2 gives 2
+    ∷ extendOf 12 0x7ff gives 0x7ff ∷ extendOf 12 0x800 gives 0xfffff800 ∷ extendOf 5 31 gives 0xffffffff ∷ []
+
+pub hold : map (λ (c : Case). c .got) cases ≡ map (λ (c : Case). c .is) cases
+hold = refl
+
+-- Sign extension is the language's own reading of a narrow signed number, at the widths that it has: one law over the width.
+turned : (m x : ℕ) → x < m → m ≤ 2 ^ 32 → x + 2 ^ 32 - m ≡ 2 ^ 32 - suc (m - suc x)
+turned m x h k = omega arith
+
+extends : (w : Width) (x : ℕ) → x < 2 ^ bits w → 2 ^ bits w ≤ 2 ^ 32 → (t : Bool) → pick t x (x + 2 ^ 32 - 2 ^ bits w) ≡ asWord (sel t (pos x) (negsuc (2 ^ bits w - suc x)))
+extends w x h k true = refl
+extends w x h k false = turned (2 ^ bits w) x h k
+
+pub byte-extends : (x : ℕ) → x < 2 ^ 8 → extendOf 8 x ≡ asWord (toZ w8 x)
+byte-extends x h = extends w8 x h (lit≤ tt) (ltb x (2 ^ 7))
+
+pub half-extends : (x : ℕ) → x < 2 ^ 16 → extendOf 16 x ≡ asWord (toZ w16 x)
+half-extends x h = extends w16 x h (lit≤ tt) (ltb x (2 ^ 15))
