@@ -1,0 +1,112 @@
+-- The launch card: how its bytes lie, and what reading and writing it answer.
+use Prim.Native.Nat.{ℕ}
+use mathlib.Core.Bool.{Bool, _&&_, cond}
+use mathlib.Core.List.{List, _∷_}
+use lib.Dec.{eqb}
+use lib.ListN.{length, replicate}
+use Rattle.warp.specs.declared.Launch.{Launch}
+use Rattle.warp.specs.Warp.{zeroLaunch}
+use Rattle.warp.specs.WellFormed.{launchOkOf}
+use Rattle.card.specs.declared.Answer.{Answer}
+use Rattle.card.specs.declared.Answer.the-variants.{Done, OutOfRange, Malformed}
+use Rattle.card.specs.declared.ReadCard.{ReadCard}
+use Rattle.card.specs.Layout.{Values, end, _▹_, sizeOf, valuesAt, bytesOf}
+
+-- 2 bytes length; version, NUMT, NUMW, WID, one byte each; then eleven 32-bit words
+abbrev pub layout : List ℕ
+layout = 2 ∷ 1 ∷ 1 ∷ 1 ∷ 1 ∷ replicate 11 4
+
+abbrev pub cardSize : ℕ
+cardSize = sizeOf layout
+
+-- the length field, counting what follows
+abbrev pub cardLength : ℕ
+cardLength = 48
+
+abbrev pub cardVersion : ℕ
+cardVersion = 1
+
+-- ---- the fields, in the card's order
+
+abbrev pub valuesOf : Launch → Values layout
+valuesOf l =
+    let f = l .fixed in
+    cardLength ▹ cardVersion ▹ f .numt ▹ f .numw ▹ f .wid
+    ▹ f .launchmask ▹ f .codebase ▹ f .database ▹ l .entry ▹ f .knl ▹ f .wgid ▹ f .lds ▹ f .pds ▹ f .gidx ▹ f .gidy ▹ f .gidz ▹ end
+
+abbrev pub launchOf : Values layout → Launch
+launchOf
+    (len ▹ version ▹ numt ▹ numw ▹ wid
+    ▹ mask ▹ codebase ▹ database ▹ entry ▹ knl ▹ wgid ▹ lds ▹ pds ▹ gidx ▹ gidy ▹ gidz ▹ end) =
+    record {
+      fixed =
+          record {
+            numt = numt;
+            numw = numw;
+            wid = wid;
+            launchmask = mask;
+            codebase = codebase;
+            database = database;
+            knl = knl;
+            wgid = wgid;
+            lds = lds;
+            pds = pds;
+            gidx = gidx;
+            gidy = gidy;
+            gidz = gidz;
+          };
+      entry = entry;
+    }
+
+-- length and version as they must be
+abbrev pub headOk : Values layout → Bool
+headOk (len ▹ version ▹ rest) = eqb len cardLength && eqb version cardVersion
+
+-- ---- the bytes d as a card, and the card of a launch
+
+unfoldable pub headOkAt : List ℕ → Bool
+headOkAt d = headOk (valuesAt layout d 0)
+
+unfoldable pub launchAt : List ℕ → Launch
+launchAt d = launchOf (valuesAt layout d 0)
+
+unfoldable pub cardOf : Launch → List ℕ
+cardOf l = bytesOf (valuesOf l)
+
+-- ---- answers
+
+-- document 01's number for each answer
+abbrev pub numberOf : Answer → ℕ
+numberOf Done = 0
+numberOf OutOfRange = 1
+numberOf Malformed = 13
+
+-- what a reading leaves
+pub record Reading : Type 0 where
+  pub number : ℕ
+  pub launch : Launch
+
+abbrev pub reading : ℕ → Launch → Reading
+reading n l = record { number = n; launch = l }
+
+abbrev pub readingOf : ReadCard → Reading
+readingOf r = reading (numberOf (r .answer)) (r .launch)
+
+-- any other length, version or total is 13; then a value out of range is 1
+unfoldable pub readCardOf : List ℕ → Reading
+readCardOf d =
+    cond (eqb (length d) cardSize && headOkAt d)
+    (cond (launchOkOf (launchAt d)) (reading 0 (launchAt d)) (reading 1 zeroLaunch))
+    (reading 13 zeroLaunch)
+
+-- what a writing leaves
+pub record Writing : Type 0 where
+  pub number : ℕ
+  pub target : List ℕ
+
+abbrev pub writing : ℕ → List ℕ → Writing
+writing n t = record { number = n; target = t }
+
+-- a value out of range, or a target that isn't exactly a card's size, is 1
+unfoldable pub writeCardOf : Launch → List ℕ → Writing
+writeCardOf l t = cond (eqb (length t) cardSize && launchOkOf l) (writing 0 (cardOf l)) (writing 1 t)

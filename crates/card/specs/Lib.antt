@@ -1,0 +1,9 @@
+pub mod BigEndian
+pub mod Layout
+pub mod Card
+pub mod RoundTrip
+pub mod Cases
+pub mod Puts
+pub mod BigEndianLaws
+pub mod LayoutLaws
+pub mod CardLaws

@@ -1,0 +1,199 @@
+// The launch card, read and written.
+use warp::Fixed;
+use warp::Launch;
+ghost use mathlib.Core.Path.{_≡_};
+ghost use Prim.Native.Nat.{_+_, _<_, _≤_};
+ghost use lib.ListN.{length};
+ghost use lib.Seq.{sets};
+ghost use Rattle.warp.specs.Warp.{zeroLaunch};
+ghost use Rattle.card.specs.BigEndian.{beAt, beBytes};
+ghost use Rattle.card.specs.Puts.{puts, later};
+ghost use Rattle.card.specs.Card.{valuesOf, cardSize, headOkAt, launchAt, numberOf, readingOf, readCardOf, writing, writeCardOf};
+
+const CARD_SIZE: usize = 50;
+
+const CARD_LENGTH: u32 = 48;
+
+const CARD_VERSION: u32 = 1;
+
+// Document 01's 0, 1 and 13.
+pub enum Answer {
+    Done,
+    OutOfRange,
+    Malformed,
+}
+
+// Writing answers Done or OutOfRange.
+pub type Written = Answer;
+
+pub struct ReadCard {
+    pub answer: Answer,
+    pub launch: Launch,
+}
+
+fn wide(x: u8) -> u32
+    ensures { λ r. ⌜ (r ≡ x) × (r < 256) ⌝ }
+{
+    x as u32
+}
+
+fn byte_at(b: &[u8], at: usize) -> u32
+    requires { ⌜ at < length (now b) ⌝ }
+    ensures { λ r. ⌜ (r ≡ beAt 1 (now (b .entry)) at) × (r < 256) ⌝ }
+{
+    wide(b[at])
+}
+
+fn half_at(b: &[u8], at: usize) -> u32
+    requires { ⌜ at + 2 ≤ length (now b) ⌝ }
+    ensures { λ r. ⌜ (r ≡ beAt 2 (now (b .entry)) at) × (r < 65536) ⌝ }
+{
+    let high = byte_at(b, at);
+    let low = byte_at(b, at + 1);
+    high * 256 + low
+}
+
+fn word_at(b: &[u8], at: usize) -> u32
+    requires { ⌜ at + 4 ≤ length (now b) ⌝ }
+    ensures { λ r. ⌜ r ≡ beAt 4 (now (b .entry)) at ⌝ }
+{
+    let high = half_at(b, at);
+    let low = half_at(b, at + 2);
+    high * 65536 + low
+}
+
+fn head_ok(b: &[u8]) -> bool
+    requires { ⌜ length (now b) ≡ cardSize ⌝ }
+    ensures { λ r. ⌜ r ≡ headOkAt (now (b .entry)) ⌝ }
+{
+    let length = half_at(b, 0);
+    let version = byte_at(b, 2);
+    (length == CARD_LENGTH) & (version == CARD_VERSION)
+}
+
+fn launch_at(b: &[u8]) -> Launch
+    requires { ⌜ length (now b) ≡ cardSize ⌝ }
+    ensures { λ r. ⌜ r ≡ launchAt (now (b .entry)) ⌝ }
+{
+    let f = Fixed {
+        numt: byte_at(b, 3),
+        numw: byte_at(b, 4),
+        wid: byte_at(b, 5),
+        launchmask: word_at(b, 6),
+        codebase: word_at(b, 10),
+        database: word_at(b, 14),
+        knl: word_at(b, 22),
+        wgid: word_at(b, 26),
+        lds: word_at(b, 30),
+        pds: word_at(b, 34),
+        gidx: word_at(b, 38),
+        gidy: word_at(b, 42),
+        gidz: word_at(b, 46),
+    };
+    Launch {
+        fixed: f,
+        entry: word_at(b, 18),
+    }
+}
+
+fn refused(a: Answer) -> ReadCard
+    ensures { λ r. ⌜ r ≡ record { answer = a; launch = zeroLaunch } ⌝ }
+{
+    let l = warp::zero_launch();
+    ReadCard {
+        answer: a,
+        launch: l,
+    }
+}
+
+// The launch on a card; all zeros where the card is refused.
+pub fn read_card(bytes: &[u8]) -> ReadCard
+    ensures { λ r. ⌜ readingOf r ≡ readCardOf (now (bytes .entry)) ⌝ }
+{
+    if bytes.len() != CARD_SIZE {
+        return refused(Answer::Malformed);
+    }
+    if !head_ok(bytes) {
+        return refused(Answer::Malformed);
+    }
+    let l = launch_at(bytes);
+    if !warp::launch_ok(l) {
+        return refused(Answer::OutOfRange);
+    }
+    ReadCard {
+        answer: Answer::Done,
+        launch: l,
+    }
+}
+
+fn put_byte(t: &mut [u8], at: usize, x: u32)
+    requires { ⌜ at < length (now t) ⌝ }
+    ensures { λ _. ⌜ now (t .exit) ≡ sets (now (t .entry)) at (beBytes 1 x) ⌝ }
+{
+    t[at] = (x % 256) as u8;
+}
+
+fn put_half(t: &mut [u8], at: usize, x: u32)
+    requires { ⌜ at + 2 ≤ length (now t) ⌝ }
+    ensures { λ _. ⌜ now (t .exit) ≡ sets (now (t .entry)) at (beBytes 2 x) ⌝ }
+{
+    t[at] = (x / 256 % 256) as u8;
+    t[at + 1] = (x % 256) as u8;
+}
+
+fn put_word(t: &mut [u8], at: usize, x: u32)
+    requires { ⌜ at + 4 ≤ length (now t) ⌝ }
+    ensures { λ _. ⌜ now (t .exit) ≡ sets (now (t .entry)) at (beBytes 4 x) ⌝ }
+{
+    t[at] = (x / 16777216 % 256) as u8;
+    t[at + 1] = (x / 65536 % 256) as u8;
+    t[at + 2] = (x / 256 % 256) as u8;
+    t[at + 3] = (x % 256) as u8;
+}
+
+// Length to entry PC; what is left to put is KNL to GIDZ.
+fn put_first(l: Launch, t: &mut [u8])
+    requires { ⌜ length (now t) ≡ cardSize ⌝ }
+    ensures { λ _. ⌜ puts (later 9 (valuesOf l)) 22 (now (t .exit)) ≡ puts (valuesOf l) 0 (now (t .entry)) ⌝ }
+{
+    let f = l.fixed;
+    put_half(t, 0, CARD_LENGTH);
+    put_byte(t, 2, CARD_VERSION);
+    put_byte(t, 3, f.numt);
+    put_byte(t, 4, f.numw);
+    put_byte(t, 5, f.wid);
+    put_word(t, 6, f.launchmask);
+    put_word(t, 10, f.codebase);
+    put_word(t, 14, f.database);
+    put_word(t, 18, l.entry);
+}
+
+// KNL to GIDZ.
+fn put_later(l: Launch, t: &mut [u8])
+    requires { ⌜ length (now t) ≡ cardSize ⌝ }
+    ensures { λ _. ⌜ now (t .exit) ≡ puts (later 9 (valuesOf l)) 22 (now (t .entry)) ⌝ }
+{
+    let f = l.fixed;
+    put_word(t, 22, f.knl);
+    put_word(t, 26, f.wgid);
+    put_word(t, 30, f.lds);
+    put_word(t, 34, f.pds);
+    put_word(t, 38, f.gidx);
+    put_word(t, 42, f.gidy);
+    put_word(t, 46, f.gidz);
+}
+
+// The launch written as a card; nothing is written where it is refused.
+pub fn write_card(l: Launch, target: &mut [u8]) -> Written
+    ensures { λ r. ⌜ writing (numberOf r) (now (target .exit)) ≡ writeCardOf l (now (target .entry)) ⌝ }
+{
+    if target.len() != CARD_SIZE {
+        return Written::OutOfRange;
+    }
+    if !warp::launch_ok(l) {
+        return Written::OutOfRange;
+    }
+    put_first(l, target);
+    put_later(l, target);
+    Written::Done
+}

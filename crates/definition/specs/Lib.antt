@@ -1,0 +1,4 @@
+pub mod Outcome
+pub mod Exec
+pub mod Step
+pub mod Calls

@@ -1,0 +1,1 @@
+// The word of an instruction: definitions and theorems only, in specs/.

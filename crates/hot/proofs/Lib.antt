@@ -1,0 +1,2 @@
+pub mod FlatSplits
+pub mod Laws

@@ -1,0 +1,107 @@
+-- Every field of an instruction in its range.
+use Prim.Native.Nat.{ℕ, _%_, _^_, _<_}
+use mathlib.Core.List.{List, [], _∷_, _++_}
+use mathlib.Core.Bool.{Bool, true, false, cond, _&&_, _||_}
+use lib.Dec.{T, eqb, ltb}
+use Rattle.word.specs.declared.Op.{Op}
+use Rattle.isa.specs.declared.XReg.{XReg}
+use Rattle.isa.specs.declared.VReg.{VReg}
+use Rattle.isa.specs.declared.Source.{Source}
+use Rattle.isa.specs.declared.Source.the-variants as From
+use Rattle.isa.specs.declared.Instr.{Instr}
+use Rattle.isa.specs.declared.Instr.the-variants as I
+use Rattle.isa.specs.Table.{Row, _⇒_}
+use Rattle.isa.specs.Scalar.{immediates, leftShifts, rightShifts, base, multiplies, alternates}
+use Rattle.isa.specs.Vector.{Formed, has, vectorTable, multiplyTable}
+use Rattle.isa.specs.Number.{number}
+
+-- a number that stays under a bound, or an op that a table has
+infix 68 _under_ _listed_
+pub data Range : Type 0 where
+  _under_ : ℕ → ℕ → Range
+  _listed_ : Op → List (Row Op) → Range
+
+abbrev pub isIn : Op → List (Row Op) → Bool
+isIn o [] = false
+isIn o (r ∷ rs) = eqb (number o) (number (r .is)) || isIn o rs
+
+abbrev pub xreg : XReg → Range
+xreg r = r .0 under 32
+
+abbrev pub vreg : VReg → Range
+vreg r = r .0 under 32
+
+-- a vector word's last operand is in the field of rs1, whatever it is
+abbrev pub fieldOf : Source → ℕ
+fieldOf (From.V r) = r .0
+fieldOf (From.X r) = r .0
+fieldOf (From.I n) = n
+
+abbrev pub even : ℕ → Range
+even n = n % 2 under 1
+
+abbrev pub shiftOps : List (Row Op)
+shiftOps = leftShifts ++ rightShifts
+
+-- what a shift moves by; 0 of the other ops
+abbrev pub amount : Op → ℕ → ℕ
+amount o n = cond (isIn o shiftOps) n 0
+
+-- the rows that have the form of this last operand
+abbrev pub keep : Bool → Row Op → List (Row Op) → List (Row Op)
+keep true r rs = r ∷ rs
+keep false r rs = rs
+
+abbrev pub formed : Source → List (Row Formed) → List (Row Op)
+formed s [] = []
+formed s (r ∷ rs) = keep (has s (r .is)) (r .code ⇒ r .is .op) (formed s rs)
+
+abbrev pub vectorOps : Source → List (Row Op)
+vectorOps s = formed s vectorTable ++ formed s multiplyTable
+
+abbrev pub rangesOf : Instr → List Range
+rangesOf I.Refused = []
+rangesOf (I.Lui d n) = xreg d ∷ n under 2 ^ 20 ∷ []
+rangesOf (I.Auipc d n) = xreg d ∷ n under 2 ^ 20 ∷ []
+rangesOf (I.Jal d n) = xreg d ∷ n under 2 ^ 21 ∷ even n ∷ []
+rangesOf (I.Jalr d a n) = xreg d ∷ xreg a ∷ n under 2 ^ 12 ∷ []
+rangesOf (I.Branch o a b n) = xreg a ∷ xreg b ∷ n under 2 ^ 13 ∷ even n ∷ []
+rangesOf (I.Load o d a n) = xreg d ∷ xreg a ∷ n under 2 ^ 12 ∷ []
+rangesOf (I.Store o a b n) = xreg a ∷ xreg b ∷ n under 2 ^ 12 ∷ []
+rangesOf (I.OpImm o d a n) = xreg d ∷ xreg a ∷ n under 2 ^ 12 ∷ amount o n under 32 ∷ o listed (immediates ++ shiftOps) ∷ []
+rangesOf (I.OpReg o d a b) = xreg d ∷ xreg a ∷ xreg b ∷ o listed (base ++ multiplies ++ alternates) ∷ []
+rangesOf (I.Fence d a n) = d under 2 ^ 5 ∷ a under 2 ^ 5 ∷ n under 2 ^ 12 ∷ []
+rangesOf (I.Csr o d a n) = xreg d ∷ xreg a ∷ n under 2 ^ 12 ∷ []
+rangesOf (I.CsrImm o d a n) = xreg d ∷ a under 2 ^ 5 ∷ n under 2 ^ 12 ∷ []
+rangesOf (I.Vector o a) = vreg (a .vd) ∷ vreg (a .vs2) ∷ fieldOf (a .src) under 32 ∷ o listed vectorOps (a .src) ∷ []
+rangesOf (I.VMove d s) = vreg d ∷ fieldOf s under 32 ∷ []
+rangesOf (I.VMoveXS d b) = xreg d ∷ vreg b ∷ []
+rangesOf (I.VMoveSX d a) = vreg d ∷ xreg a ∷ []
+rangesOf (I.Vid d) = vreg d ∷ []
+rangesOf (I.VBranch o a b n) = vreg a ∷ vreg b ∷ n under 2 ^ 13 ∷ even n ∷ []
+rangesOf I.Join = []
+rangesOf (I.SetRpc d a n) = xreg d ∷ xreg a ∷ n under 2 ^ 12 ∷ []
+rangesOf I.EndPrg = []
+rangesOf (I.Barrier n) = n under 2 ^ 5 ∷ []
+rangesOf (I.VLoad o d a n) = vreg d ∷ vreg a ∷ n under 2 ^ 12 ∷ []
+rangesOf (I.VStore o a b n) = vreg a ∷ vreg b ∷ n under 2 ^ 12 ∷ []
+rangesOf (I.PLoad o d a n) = vreg d ∷ vreg a ∷ n under 2 ^ 11 ∷ []
+rangesOf (I.PStore o a b n) = vreg a ∷ vreg b ∷ n under 2 ^ 11 ∷ []
+
+abbrev pub holdsAll : List Range → Bool
+holdsAll [] = true
+holdsAll (n under k ∷ rs) = ltb n k && holdsAll rs
+holdsAll (o listed t ∷ rs) = isIn o t && holdsAll rs
+
+-- the test; Refused fits
+abbrev pub fitsOf : Instr → Bool
+fitsOf i = holdsAll (rangesOf i)
+
+-- the facts: of `Lui d n`, (d .0 < 32) × ((n < 2 ^ 20) × Unit)
+abbrev pub Holds : List Range → Type 0
+Holds [] = Unit {0}
+Holds (n under k ∷ rs) = (n < k) × Holds rs
+Holds (o listed t ∷ rs) = T (isIn o t) × Holds rs
+
+abbrev pub Fits : Instr → Type 0
+Fits i = Holds (rangesOf i)

@@ -1,0 +1,80 @@
+-- Laws of tables.
+use Prim.Native.Nat.{ℕ}
+use mathlib.Core.Path.{_≡_, refl, sym, subst}
+use mathlib.Core.List.{List, [], _∷_, _++_}
+use mathlib.Core.Bool.{Bool, true, false, cond, _&&_}
+use lib.Dec.{T, eqb}
+use borrow.Author.Tests.{eqb-true, ne-eqb}
+use Rattle.isa.specs.declared.Fields.{Fields}
+use Rattle.isa.specs.declared.Instr.{Instr}
+use Rattle.isa.specs.declared.Instr.the-variants as I
+use Rattle.isa.specs.Table.{Row, seek, on, wordsOf, fixed}
+
+pub both : (a b : Bool) → T (a && b) → T a × T b
+both true b t = (tt, t)
+both false b t = absurd t
+
+-- a fact of each row at which the seeking can stop
+abbrev pub Rows : {A B : Type 0} → (B → Type 0) → (A → B) → ℕ → List (Row A) → Type 0
+Rows P f k [] = Unit {0}
+Rows P f k (r ∷ rs) = (k ≡ r .code → P (f (r .is))) × Rows P f k rs
+
+stop :
+    {A B : Type 0} (P : B → Type 0) (f : A → B) (k : ℕ) (r : Row A) (rest : B) (b : Bool)
+    → eqb k (r .code) ≡ b → (k ≡ r .code → P (f (r .is))) → P rest → P (cond b (f (r .is)) rest)
+stop P f k r rest true e h₁ h₂ = h₁ (eqb-true k (r .code) e)
+stop P f k r rest false e h₁ h₂ = h₂
+
+-- what each row makes has a property, and the other answer too: then what was found has it
+pub found :
+    {A B : Type 0} (P : B → Type 0) (f : A → B) (other : B) (k : ℕ) (t : List (Row A)) → P other → Rows P f k t → P (seek f other k t)
+found P f other k [] z h = z
+found P f other k (r ∷ rs) z h = stop P f k r (seek f other k rs) (eqb k (r .code)) refl (h .0) (found P f other k rs z (h .1))
+
+pub rows-append :
+    {A B : Type 0} (P : B → Type 0) (f : A → B) (k : ℕ) (t u : List (Row A)) → Rows P f k t → Rows P f k u → Rows P f k (t ++ u)
+rows-append P f k [] u h g = g
+rows-append P f k (r ∷ rs) u h g = (h .0, rows-append P f k rs u (h .1) g)
+
+-- a test of each row
+abbrev pub every : {A : Type 0} → (A → ℕ → Bool) → List (Row A) → Bool
+every p [] = true
+every p (r ∷ rs) = p (r .is) (r .code) && every p rs
+
+-- each row of a table passes the test, and what passes makes a word that has what is wanted
+pub rows-tested :
+    {A : Type 0} (P : Instr → Type 0) (make : A → Fields → Instr) (p : A → ℕ → Bool) (c : Fields) (k : ℕ) (t : List (Row A))
+    → T (every p t) → ((a : A) → T (p a k) → P (make a c)) → Rows P (on c) k (wordsOf make t)
+rows-tested P make p c k [] q h = tt
+rows-tested P make p c k (r ∷ rs) q h =
+    let s = both (p (r .is) (r .code)) (every p rs) q in
+    ((λ e. h (r .is) (subst (λ (n : ℕ). T (p (r .is) n)) (sym e) (s .0))), rows-tested P make p c k rs (s .1) h)
+
+fixed-by : (P : Instr → Type 0) (n k : ℕ) (i : Instr) (b : Bool) → eqb n k ≡ b → P I.Refused → (n ≡ k → P i) → P (cond b i I.Refused)
+fixed-by P n k i true e z h = h (eqb-true n k e)
+fixed-by P n k i false e z h = z
+
+pub fixed-at : (P : Instr → Type 0) (n k : ℕ) (i : Instr) → P I.Refused → (n ≡ k → P i) → P (fixed n k i)
+fixed-at P n k i z h = fixed-by P n k i (eqb n k) refl z h
+
+-- k is none of the table's codes, in the form in which a `match` on k hands it to its last arm
+abbrev pub NoneFrom : {A : Type 0} → Type 0 → ℕ → List (Row A) → Type 0
+NoneFrom acc k [] = acc
+NoneFrom acc k (r ∷ rs) = NoneFrom (acc × (k ≡ r .code → ⊥)) k rs
+
+start : {A : Type 0} (acc : Type 0) (k : ℕ) (t : List (Row A)) → NoneFrom acc k t → acc
+start acc k [] h = h
+start acc k (r ∷ rs) h = start (acc × (k ≡ r .code → ⊥)) k rs h .0
+
+past-from :
+    {A B : Type 0} (acc : Type 0) (f : A → B) (other : B) (k : ℕ) (t u : List (Row A)) → NoneFrom acc k t
+    → seek f other k (t ++ u) ≡ seek f other k u
+past-from acc f other k [] u h = refl
+past-from acc f other k (r ∷ rs) u h =
+    rw (ne-eqb k (r .code) (start (acc × (k ≡ r .code → ⊥)) k rs h .1)) (past-from (acc × (k ≡ r .code → ⊥)) f other k rs u h)
+
+-- the last arm's answer: what the rows after the arms' say, or the other answer where there are none
+pub past :
+    {A B : Type 0} (f : A → B) (other : B) (k : ℕ) (t u : List (Row A)) → NoneFrom (Unit {0}) k t
+    → seek f other k u ≡ seek f other k (t ++ u)
+past f other k t u h = sym (past-from (Unit {0}) f other k t u h)

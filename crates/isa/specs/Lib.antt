@@ -1,0 +1,11 @@
+pub mod Fields
+pub mod Table
+pub mod Scalar
+pub mod Vector
+pub mod Ventus
+pub mod Decode
+pub mod Cards
+pub mod Number
+pub mod Fits
+pub mod Laws
+pub mod Decoded

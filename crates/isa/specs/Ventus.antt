@@ -1,0 +1,69 @@
+-- The Ventus words: VBRANCH, JOIN, SETRPC, ENDPRG, BARRIER, VLOAD12 and VSTORE12, private loads and stores.
+use Prim.Native.Nat.{_+_, _/_}
+use mathlib.Core.List.{List, [], _∷_, _++_}
+use Rattle.word.specs.declared.Cond.{Cond}
+use Rattle.isa.specs.declared.Fields.{Fields}
+use Rattle.isa.specs.declared.Instr.{Instr}
+use Rattle.isa.specs.declared.Instr.the-variants as I
+use Rattle.isa.specs.declared.LoadOp.{LoadOp}
+use Rattle.isa.specs.declared.StoreOp.{StoreOp}
+use Rattle.isa.specs.declared.StoreOp.the-variants as S
+use Rattle.isa.specs.Fields.{x, v, immI, immS, immB}
+use Rattle.isa.specs.Table.{Row, _⇒_, Words, wordAt, wordsOf, fixed}
+use Rattle.isa.specs.Scalar.{conditions, loads}
+
+-- 1011011, by funct3: VBEQ .. VBGEU, JOIN, SETRPC
+abbrev pub vbranchAs : Cond → Fields → Instr
+vbranchAs o c = I.VBranch o (v (c .rs1)) (v (c .rs2)) (immB c)
+
+-- 0000000 00000 00000 010 00000 1011011: a sum of fields is 0 where each is
+unfoldable pub joinOf : Fields → Instr
+joinOf c = fixed (c .funct7 + c .rs2 + c .rs1 + c .rd) 0 I.Join
+
+abbrev pub setRpcAs : Fields → Instr
+setRpcAs c = I.SetRpc (x (c .rd)) (x (c .rs1)) (immI c)
+
+abbrev pub joins : Words
+joins = 0b010 ⇒ joinOf ∷ 0b011 ⇒ setRpcAs ∷ []
+
+unfoldable pub splitsOf : Fields → Instr
+splitsOf c = wordAt c (c .funct3) (wordsOf vbranchAs conditions ++ joins)
+
+-- 0001011, funct3 100, by funct7: ENDPRG; BARRIER, bits 19 to 15 free; other fields 0
+unfoldable pub endPrgOf : Fields → Instr
+endPrgOf c = fixed (c .rs2 + c .rs1 + c .rd) 0 I.EndPrg
+
+unfoldable pub barrierOf : Fields → Instr
+barrierOf c = fixed (c .rs2 + c .rd) 0 (I.Barrier (c .rs1))
+
+abbrev pub stops : Words
+stops = 0b0000000 ⇒ endPrgOf ∷ 0b0000010 ⇒ barrierOf ∷ []
+
+unfoldable pub stopOf : Fields → Instr
+stopOf c = fixed (c .funct3) 0b100 (wordAt c (c .funct7) stops)
+
+-- VLOAD12 and VSTORE12, by funct3
+abbrev pub vstores : List (Row StoreOp)
+vstores = 0b111 ⇒ S.B ∷ 0b011 ⇒ S.H ∷ 0b110 ⇒ S.W ∷ []
+
+abbrev pub accesses : (LoadOp → Fields → Instr) → (StoreOp → Fields → Instr) → Words
+accesses load store = wordsOf load loads ++ wordsOf store vstores
+
+abbrev pub vloadAs : LoadOp → Fields → Instr
+vloadAs o c = I.VLoad o (v (c .rd)) (v (c .rs1)) (immI c)
+
+abbrev pub vstoreAs : StoreOp → Fields → Instr
+vstoreAs o c = I.VStore o (v (c .rs1)) (v (c .rs2)) (immS c)
+
+unfoldable pub laneAccessOf : Fields → Instr
+laneAccessOf c = wordAt c (c .funct3) (accesses vloadAs vstoreAs)
+
+-- the private forms, same funct3: bit 31 zero, so the offset is of 11 bits
+abbrev pub ploadAs : LoadOp → Fields → Instr
+ploadAs o c = I.PLoad o (v (c .rd)) (v (c .rs1)) (immI c)
+
+abbrev pub pstoreAs : StoreOp → Fields → Instr
+pstoreAs o c = I.PStore o (v (c .rs1)) (v (c .rs2)) (immS c)
+
+unfoldable pub privateOf : Fields → Instr
+privateOf c = fixed (c .funct7 / 64) 0 (wordAt c (c .funct3) (accesses ploadAs pstoreAs))

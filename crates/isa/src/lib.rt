@@ -1,0 +1,81 @@
+// The instructions: registers, op enums, and one variant for each operand format.
+use word::Cond;
+use word::Op;
+
+// A scalar register and a vector register: never interchanged.
+pub struct XReg(pub u8);
+
+pub struct VReg(pub u8);
+
+// A word's fields as in an R-type word, all but the opcode.
+pub struct Fields {
+    pub rd: u8,
+    pub funct3: u8,
+    pub rs1: u8,
+    pub rs2: u8,
+    pub funct7: u8,
+}
+
+pub enum LoadOp {
+    B,
+    H,
+    W,
+    Bu,
+    Hu,
+}
+
+pub enum StoreOp {
+    B,
+    H,
+    W,
+}
+
+pub enum CsrOp {
+    Rw,
+    Rs,
+    Rc,
+}
+
+// A vector word's last operand; which it is, is the word's form: VV, VX or VI.
+pub enum Source {
+    V(VReg),
+    X(XReg),
+    I(u8),
+}
+
+pub struct VecArgs {
+    pub vd: VReg,
+    pub vs2: VReg,
+    pub src: Source,
+}
+
+// Destination first, then rs1, then rs2 (a store: its base, then what it stores), then the immediate as the raw field.
+pub enum Instr {
+    Refused,
+    Lui(XReg, u32),
+    Auipc(XReg, u32),
+    Jal(XReg, u32),
+    Jalr(XReg, XReg, u16),
+    Branch(Cond, XReg, XReg, u16),
+    Load(LoadOp, XReg, XReg, u16),
+    Store(StoreOp, XReg, XReg, u16),
+    OpImm(Op, XReg, XReg, u16),
+    OpReg(Op, XReg, XReg, XReg),
+    Fence(u8, u8, u16),
+    Csr(CsrOp, XReg, XReg, u16),
+    CsrImm(CsrOp, XReg, u8, u16),
+    Vector(Op, VecArgs),
+    VMove(VReg, Source),
+    VMoveXS(XReg, VReg),
+    VMoveSX(VReg, XReg),
+    Vid(VReg),
+    VBranch(Cond, VReg, VReg, u16),
+    Join,
+    SetRpc(XReg, XReg, u16),
+    EndPrg,
+    Barrier(u8),
+    VLoad(LoadOp, VReg, VReg, u16),
+    VStore(StoreOp, VReg, VReg, u16),
+    PLoad(LoadOp, VReg, VReg, u16),
+    PStore(StoreOp, VReg, VReg, u16),
+}

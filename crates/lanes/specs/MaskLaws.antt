@@ -1,0 +1,205 @@
+-- Laws of lane masks: a mask cut in two, and the mask of the lanes where a test holds.
+use mathlib.Core.Path.{_≡_, refl, sym, ap, ap₂, _∙_, subst}
+use mathlib.Core.Bool.{Bool, true, false, not, _&&_, and-true, and-false, and-self-left}
+use mathlib.Core.Logic.{⊎-elim}
+use mathlib.Core.List.{List}
+use Prim.Native.Nat.{ℕ, zero, suc, _+_, _-_, _*_, _/_, _%_, _^_, _≤_, _<_, min}
+use native.Mathlib.Nat.{eq-zero-or-pos, div-one, mod-eq-of-lt, mod-one, one-mul, zero-mul, pow-suc, le-refl, lt-of-lt-of-le, div-eq-of-lt, add-div-right, add-mul-div-right, add-mul-mod-self-right, mul-assoc, mul-comm}
+use native.Mathlib.Numerals.{one-add}
+use native.Mathlib.Omega.{arith}
+use lib.Arith.{bin-ind}
+use lib.Pow.{pow-pos, pow-mono, pow-add, shr-shr, mod-pow-add}
+use lib.Bits.{bitAnd, and-step, and-le-r, and-block}
+use lib.Count.{ones, onesIn, ones-step}
+use lib.Dec.{eqb}
+use borrow.Author.Tests.{eqb-true, eqb-false, ne-eqb}
+use Rattle.word.specs.Word.{holdsOf}
+use Rattle.word.specs.declared.Cond.{Cond}
+use Rattle.isa.specs.declared.VReg.{VReg}
+use Rattle.lanes.specs.Mask.{bitAt, bit}
+use Rattle.lanes.specs.Lanes.{stepIf, eachLane, maskOf, allLanes, laneOf, wantsOf}
+use Rattle.lanes.specs.Laws.{newest, each-grows, each-same}
+
+-- ---- lane l's digit
+pub bit-zero : (m : ℕ) → bitAt 0 m ≡ m % 2
+unfolding bitAt
+bit-zero m = ap (λ (x : ℕ). x % 2) (div-one m)
+
+pub bit-suc : (l m : ℕ) → bitAt (suc l) m ≡ bitAt l (m / 2)
+unfolding bitAt
+bit-suc l m = sym (ap (λ (x : ℕ). x % 2) (shr-shr m 1 l ∙ ap (λ (k : ℕ). m / 2 ^ k) (one-add l)))
+
+pub bit-le : (l m : ℕ) → bitAt l m ≤ 1
+unfolding bitAt
+bit-le l m = omega arith
+
+-- no lane at or above n
+pub bit-above : (m n l : ℕ) → m < 2 ^ n → n ≤ l → bit m l ≡ false
+unfolding bitAt
+bit-above m n l h k = rw (div-eq-of-lt (lt-of-lt-of-le h (pow-mono {i = n} {j = l} k)))
+
+-- ---- a mask m cut in two: e inside m, and m - e, the rest
+record Halved (e m : ℕ) : Type 0 where
+  high : bitAnd (e / 2) (m / 2) ≡ e / 2
+  rest : (m - e) / 2 ≡ m / 2 - e / 2
+  odd : m % 2 ≡ e % 2 + (m - e) % 2
+
+halved : (e m : ℕ) → bitAnd e m ≡ e → Halved e m
+halved e m h =
+    let s : bitAnd e m ≡ bitAnd (e / 2) (m / 2) * 2 + min (e % 2) (m % 2) = and-step e m in
+    let up : bitAnd (e / 2) (m / 2) ≡ e / 2 = omega arith in
+    let lo : e % 2 ≤ m % 2 = omega arith in
+    let le : e / 2 ≤ m / 2 = rw up at (and-le-r (e / 2) (m / 2)) in
+    record { high = up; rest = omega arith; odd = omega arith }
+
+-- each lane of m is in e or in the rest, and in one alone
+pub cut-bit : (l e m : ℕ) → bitAnd e m ≡ e → bitAt l m ≡ bitAt l e + bitAt l (m - e)
+cut-bit zero e m h = rw (bit-zero m, bit-zero e, bit-zero (m - e)) (halved e m h .odd)
+cut-bit (suc l) e m h = rw (bit-suc l m, bit-suc l e, bit-suc l (m - e), halved e m h .rest) (cut-bit l (e / 2) (m / 2) (halved e m h .high))
+
+no-lane : (e : ℕ) → e ≡ 0 → ones 0 ≡ ones e + ones (0 - e)
+unfolding ones onesIn
+no-lane e z = rw z
+
+-- and the lanes of the two make up those of m
+pub cut-ones : (m e : ℕ) → bitAnd e m ≡ e → ones m ≡ ones e + ones (m - e)
+cut-ones =
+    bin-ind (λ (m : ℕ). (e : ℕ) → bitAnd e m ≡ e → ones m ≡ ones e + ones (m - e))
+    (λ e h. no-lane e (omega (arith, and-le-r e 0)))
+    (λ m ih e h. omega (arith, ones-step m, ones-step e, ones-step (m - e), ih (e / 2) (halved e m h .high), ap ones (halved e m h .rest), halved e m h .odd))
+
+-- a mask that is not empty has a lane
+pub ones-pos : (m : ℕ) → 0 < m → 0 < ones m
+ones-pos = bin-ind (λ (m : ℕ). 0 < m → 0 < ones m) (λ h. omega arith) (λ m ih h. ⊎-elim (λ z. omega (arith, ones-step m)) (λ p. omega (arith, ones-step m, ih p)) (eq-zero-or-pos (m / 2)))
+
+-- ---- the mask of the lanes that a test picks
+pub mask-lt : (on : ℕ → Bool) (n : ℕ) → maskOf n on < 2 ^ n
+mask-lt on n = each-grows on _ 0 (λ i m. m < 2 ^ i) (le-refl 1) n (λ l m h t q. rw pow-suc (omega arith)) (λ l m h t q. rw pow-suc (omega arith))
+
+pub mask-same : (p q : ℕ → Bool) (n : ℕ) → ((l : ℕ) → l < n → p l ≡ q l) → maskOf n p ≡ maskOf n q
+mask-same p q n e = each-same p q (λ k z. z + 2 ^ k) (λ k z. z + 2 ^ k) 0 n e (λ l u h t. refl)
+
+top-bit : (m l : ℕ) → m < 2 ^ l → bit (m + 2 ^ l) l ≡ true
+unfolding bitAt
+top-bit m l h = rw (add-div-right m (pow-pos l), div-eq-of-lt h)
+
+wider : (k l : ℕ) → k < l → 2 ^ l ≡ 2 ^ (l - suc k) * 2 * 2 ^ k
+wider k l h =
+    let e : l ≡ (l - suc k) + suc k = omega arith in
+    ap (λ (n : ℕ). 2 ^ n) e ∙ pow-add 2 (l - suc k) (suc k) ∙ ap (λ (n : ℕ). 2 ^ (l - suc k) * n) (pow-suc 2 k ∙ mul-comm (2 ^ k) 2) ∙ sym (mul-assoc (2 ^ (l - suc k)) 2 (2 ^ k))
+
+low-bit : (m k l : ℕ) → k < l → bit (m + 2 ^ l) k ≡ bit m k
+unfolding bitAt
+low-bit m k l h =
+    ap (λ (n : ℕ). eqb (n % 2) 1) (ap (λ (n : ℕ). (m + n) / 2 ^ k) (wider k l h) ∙ add-mul-div-right m (2 ^ (l - suc k) * 2) (pow-pos k))
+    ∙ ap (λ (n : ℕ). eqb n 1) (add-mul-mod-self-right (m / 2 ^ k) (2 ^ (l - suc k)) 2)
+
+-- its lanes are those that the test picks
+pub mask-bit : (on : ℕ → Bool) (n k : ℕ) → k < n → bit (maskOf n on) k ≡ on k
+mask-bit on n k h =
+    each-grows on _ 0 (λ i m. (m < 2 ^ i) × ((j : ℕ) → j < i → bit m j ≡ on j)) (le-refl 1, λ j z. absurd (omega arith)) n
+    (λ l m p t q. (
+      rw pow-suc (omega (arith, q .0)),
+      λ j z. ⊎-elim
+          (λ e. subst (λ (i : ℕ). bit (m + 2 ^ l) i ≡ on i) (sym e) (top-bit m l (q .0) ∙ sym t))
+          (λ e. low-bit m j l e ∙ q .1 j e)
+          (newest z),
+    ))
+    (λ l m p t q. (
+      rw pow-suc (omega (arith, q .0)),
+      λ j z. ⊎-elim
+          (λ e. subst (λ (i : ℕ). bit m i ≡ on i) (sym e) (bit-above m l l (q .0) (le-refl l) ∙ sym t))
+          (λ e. q .1 j e)
+          (newest z),
+    )) .1 k h
+
+digit : (d p r : ℕ) → d < 2 → (t : Bool) → eqb d 1 ≡ t → d * p + r ≡ stepIf t (λ (m : ℕ). m + p) r
+digit d p r h true e = rw (eqb-true d 1 e) (rw one-mul (omega arith))
+digit d p r h false e =
+    let z : d ≡ 0 = omega (arith, eqb-false d 1 e) in
+    rw z (rw zero-mul (omega arith))
+
+mask-mod : (m n : ℕ) → m % 2 ^ n ≡ maskOf n (bit m)
+unfolding eachLane bitAt
+mask-mod m zero = mod-one m
+mask-mod m (suc n) =
+    ap (λ (k : ℕ). m % 2 ^ k) (sym (one-add n)) ∙ mod-pow-add m 1 n
+    ∙ digit (m / 2 ^ n % 2) (2 ^ n) (m % 2 ^ n) (omega arith) (bit m n) refl
+    ∙ ap (stepIf (bit m n) (λ (k : ℕ). k + 2 ^ n)) (mask-mod m n)
+
+-- a mask of n lanes is the mask of its own
+pub mask-self : (m n : ℕ) → m < 2 ^ n → m ≡ maskOf n (bit m)
+mask-self m n h = sym (mod-eq-of-lt h) ∙ mask-mod m n
+
+part : (o t : Bool) (a b c p : ℕ) → a + b ≡ c → stepIf (o && t) (λ (m : ℕ). m + p) a + stepIf (o && not t) (λ (m : ℕ). m + p) b ≡ stepIf o (λ (m : ℕ). m + p) c
+part true true a b c p e = omega arith
+part true false a b c p e = omega arith
+part false t a b c p e = e
+
+-- the lanes where a test holds, and the others, make up the mask
+pub mask-split : (on c : ℕ → Bool) (n : ℕ) → maskOf n (λ l. on l && c l) + maskOf n (λ l. on l && not (c l)) ≡ maskOf n on
+unfolding eachLane
+mask-split on c zero = refl
+mask-split on c (suc n) = part (on n) (c n) _ _ _ (2 ^ n) (mask-split on c n)
+
+-- the lanes of two masks: `&`
+digitOf : Bool → ℕ
+digitOf true = 1
+digitOf false = 0
+
+step-digit : (t : Bool) (p r : ℕ) → stepIf t (λ (m : ℕ). m + p) r ≡ digitOf t * p + r
+unfolding digitOf
+step-digit true p r = rw one-mul (omega arith)
+step-digit false p r = rw zero-mul (omega arith)
+
+digit-and : (s t : Bool) → bitAnd (digitOf s) (digitOf t) ≡ digitOf (t && s)
+unfolding digitOf
+digit-and true true = refl
+digit-and true false = refl
+digit-and false true = refl
+digit-and false false = refl
+
+pub masks-and : (p q : ℕ → Bool) (n : ℕ) → bitAnd (maskOf n p) (maskOf n q) ≡ maskOf n (λ l. q l && p l)
+unfolding eachLane
+masks-and p q zero = refl
+masks-and p q (suc n) =
+    ap₂ bitAnd (step-digit (p n) (2 ^ n) (maskOf n p)) (step-digit (q n) (2 ^ n) (maskOf n q))
+    ∙ and-block n (digitOf (p n)) (digitOf (q n)) (maskOf n p) (maskOf n q) (mask-lt p n) (mask-lt q n)
+    ∙ ap₂ (λ (x y : ℕ). x * 2 ^ n + y) (digit-and (p n) (q n)) (masks-and p q n)
+    ∙ sym (step-digit (q n && p n) (2 ^ n) (maskOf n (λ l. q l && p l)))
+
+pub and-bits : (p : ℕ → Bool) (n m : ℕ) → m < 2 ^ n → bitAnd (maskOf n p) m ≡ maskOf n (λ l. bit m l && p l)
+and-bits p n m h = ap (bitAnd (maskOf n p)) (mask-self m n h) ∙ masks-and p (bit m) n
+
+-- a mask is 0 just where the test holds in no lane
+pub mask-zero : (q : ℕ → Bool) (n : ℕ) → eqb (maskOf n q) 0 ≡ allLanes n (λ l. not (q l))
+unfolding eachLane allLanes
+mask-zero q zero = refl
+mask-zero q (suc n) = turn (q n) (maskOf n q) (allLanes n (λ l. not (q l))) (mask-zero q n)
+  where
+    turn : (t : Bool) (m : ℕ) (a : Bool) → eqb m 0 ≡ a → eqb (stepIf t (λ (k : ℕ). k + 2 ^ n) m) 0 ≡ (a && not t)
+    turn true m a e = ne-eqb (m + 2 ^ n) 0 (λ z. omega (arith, pow-pos n)) ∙ sym (and-false a)
+    turn false m a e = e ∙ sym (and-true a)
+
+-- ---- the lanes of m where a test holds, e, and the rest, m - e
+module _ (m n : ℕ) (p : ℕ → Bool) (h : m < 2 ^ n) where
+  pub part-in : bitAnd (maskOf n (λ l. bit m l && p l)) m ≡ maskOf n (λ l. bit m l && p l)
+  part-in = and-bits (λ l. bit m l && p l) n m h ∙ mask-same (λ l. bit m l && (bit m l && p l)) (λ l. bit m l && p l) n (λ l k. and-self-left (bit m l) (p l))
+
+  pub part-le : maskOf n (λ l. bit m l && p l) ≤ m
+  part-le = subst (λ (e : ℕ). e ≤ m) part-in (and-le-r (maskOf n (λ l. bit m l && p l)) m)
+
+  pub part-cut : (l : ℕ) → bitAt l m ≡ bitAt l (maskOf n (λ k. bit m k && p k)) + bitAt l (m - maskOf n (λ k. bit m k && p k))
+  part-cut l = cut-bit l (maskOf n (λ k. bit m k && p k)) m part-in
+
+  pub part-rest : m - maskOf n (λ l. bit m l && p l) ≡ maskOf n (λ l. bit m l && not (p l))
+  part-rest = omega (arith, mask-split (bit m) p n, mask-self m n h)
+
+-- VBRANCH's else mask looks at the lanes of m alone
+pub wants-only : (m n : ℕ) (c : Cond) (a b : VReg) (v w : List ℕ) → ((l : ℕ) → l < n → bit m l ≡ true → (r : VReg) → laneOf v r l ≡ laneOf w r l)
+    → maskOf n (wantsOf v m c a b) ≡ maskOf n (wantsOf w m c a b)
+wants-only m n c a b v w same = mask-same (wantsOf v m c a b) (wantsOf w m c a b) n (λ l h. at-on (bit m l) (holdsOf c (laneOf v a l) (laneOf v b l)) (holdsOf c (laneOf w a l) (laneOf w b l)) (λ t. ap₂ (holdsOf c) (same l h t a) (same l h t b)))
+  where
+    at-on : (t x y : Bool) → (t ≡ true → x ≡ y) → (t && x) ≡ (t && y)
+    at-on true x y e = e refl
+    at-on false x y e = refl

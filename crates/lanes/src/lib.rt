@@ -1,0 +1,296 @@
+// The vector file, lane by lane.
+use isa::VReg;
+use word::Cond;
+use word::Op;
+ghost use mathlib.Core.Path.{_≡_};
+ghost use Prim.Native.Nat.{_+_, _*_, _^_, _<_, _≤_};
+ghost use lib.ListN.{length};
+ghost use Rattle.word.specs.Word.{pick};
+ghost use Rattle.lanes.specs.Mask.{bit};
+ghost use Rattle.lanes.specs.Lanes.{lanesMax, registers, fileWords, slotOf, laneOf, operandOf, OperandOk, opLane, writeLanes, maskOf, wantsOf, valueOf, uniformOf};
+ghost use Rattle.lanes.specs.Rows.{at, Row, RowOn, mapLane, holdsLane, maskStep};
+
+pub const LANES: usize = 32;
+
+// A lane's number. With VReg a type of its own, the two can't change places.
+pub struct Lane(pub usize);
+
+// A vector word's last operand: a register's lane, or one word for all lanes.
+pub enum Operand {
+    Reg(VReg),
+    Word(u32),
+}
+
+fn wide(x: u8) -> usize
+    ensures { λ r. ⌜ r ≡ x ⌝ }
+{
+    x as usize
+}
+
+// The one place where register and lane become an index of the file.
+pub fn slot(r: VReg, l: Lane) -> usize
+    requires { ⌜ (r .0 < registers) × (l .0 < lanesMax) ⌝ }
+    ensures { λ i. ⌜ i ≡ slotOf r (l .0) ⌝ }
+{
+    let register = wide(r.0);
+    let lane = l.0;
+    register * LANES + lane
+}
+
+pub fn active(mask: u32, l: Lane) -> bool
+    requires { ⌜ l .0 < lanesMax ⌝ }
+    ensures { λ t. ⌜ t ≡ bit mask (l .0) ⌝ }
+{
+    (mask >> (l.0 as u32)) % 2 == 1
+}
+
+fn choose(t: bool, x: u32, y: u32) -> u32
+    ensures { λ r. ⌜ r ≡ pick t x y ⌝ }
+{
+    if t { x } else { y }
+}
+
+// Register r's lanes below n.
+pub fn get(v: &[u32], r: VReg, n: usize, a: &mut [u32; LANES])
+    requires { ⌜ (length (now v) ≡ fileWords) × ((r .0 < registers) × ((n ≤ lanesMax) × (length (now a) ≡ lanesMax))) ⌝ }
+    ensures { λ _. ⌜ Row n (laneOf (now (v .entry)) r) (now (a .exit)) ⌝ }
+{
+    let mut l = 0;
+    while l < n {
+        let i = slot(r, Lane(l));
+        a[l] = v[i];
+        l += 1;
+    }
+}
+
+// One word in each lane below n.
+pub fn splat(x: u32, n: usize, a: &mut [u32; LANES])
+    requires { ⌜ (n ≤ lanesMax) × (length (now a) ≡ lanesMax) ⌝ }
+    ensures { λ _. ⌜ Row n (λ l. x) (now (a .exit)) ⌝ }
+{
+    let mut l = 0;
+    while l < n {
+        a[l] = x;
+        l += 1;
+    }
+}
+
+// The operand's lanes below n.
+pub fn get_operand(v: &[u32], b: Operand, n: usize, a: &mut [u32; LANES])
+    requires { ⌜ (length (now v) ≡ fileWords) × (OperandOk b × ((n ≤ lanesMax) × (length (now a) ≡ lanesMax))) ⌝ }
+    ensures { λ _. ⌜ Row n (operandOf (now (v .entry)) b) (now (a .exit)) ⌝ }
+{
+    match b {
+        Operand::Reg(r) => get(v, r, n, a),
+        Operand::Word(x) => splat(x, n, a),
+    }
+}
+
+// The row into register d, in the lanes of the mask: both words are at hand, and one is chosen without a branch.
+pub fn put(v: &mut [u32], mask: u32, d: VReg, n: usize, a: &[u32; LANES])
+    requires { ⌜ (length (now v) ≡ fileWords) × ((d .0 < registers) × (n ≤ lanesMax)) ⌝ }
+    ensures { λ _. ⌜ now (v .exit) ≡ writeLanes n (bit mask) d (at (now (a .entry))) (now (v .entry)) ⌝ }
+{
+    let mut l = 0;
+    while l < n {
+        let i = slot(d, Lane(l));
+        let old = v[i];
+        let new = a[l];
+        v[i] = choose(active(mask, Lane(l)), new, old);
+        l += 1;
+    }
+}
+
+// The one loop of every operation.
+fn map(op: Op, n: usize, a: &mut [u32; LANES], b: &[u32; LANES])
+    requires { ⌜ (n ≤ lanesMax) × (length (now a) ≡ lanesMax) ⌝ }
+    ensures { λ _. ⌜ Row n (mapLane op (now (a .entry)) (now (b .entry))) (now (a .exit)) ⌝ }
+{
+    let mut l = 0;
+    while l < n {
+        a[l] = word::apply(op, a[l], b[l]);
+        l += 1;
+    }
+}
+
+// The loop of a division, which has no vector code: in the lanes of the mask only.
+fn map_on(op: Op, mask: u32, n: usize, a: &mut [u32; LANES], b: &[u32; LANES])
+    requires { ⌜ (n ≤ lanesMax) × (length (now a) ≡ lanesMax) ⌝ }
+    ensures { λ _. ⌜ RowOn (bit mask) n (mapLane op (now (a .entry)) (now (b .entry))) (now (a .exit)) ⌝ }
+{
+    let mut l = 0;
+    while l < n {
+        if active(mask, Lane(l)) {
+            a[l] = word::apply(op, a[l], b[l]);
+        }
+        l += 1;
+    }
+}
+
+// The loop at an operation that is known, so that each arm is compiled to vector code of its own.
+fn map_op(op: Op, mask: u32, n: usize, a: &mut [u32; LANES], b: &[u32; LANES])
+    requires { ⌜ (n ≤ lanesMax) × (length (now a) ≡ lanesMax) ⌝ }
+    ensures { λ _. ⌜ RowOn (bit mask) n (mapLane op (now (a .entry)) (now (b .entry))) (now (a .exit)) ⌝ }
+{
+    match op {
+        Op::Add => map(Op::Add, n, a, b),
+        Op::Sub => map(Op::Sub, n, a, b),
+        Op::Rsub => map(Op::Rsub, n, a, b),
+        Op::Sll => map(Op::Sll, n, a, b),
+        Op::Srl => map(Op::Srl, n, a, b),
+        Op::Sra => map(Op::Sra, n, a, b),
+        Op::Slt => map(Op::Slt, n, a, b),
+        Op::Sltu => map(Op::Sltu, n, a, b),
+        Op::And => map(Op::And, n, a, b),
+        Op::Or => map(Op::Or, n, a, b),
+        Op::Xor => map(Op::Xor, n, a, b),
+        Op::Mul => map(Op::Mul, n, a, b),
+        Op::Mulh => map(Op::Mulh, n, a, b),
+        Op::Mulhsu => map(Op::Mulhsu, n, a, b),
+        Op::Mulhu => map(Op::Mulhu, n, a, b),
+        Op::Div => map_on(Op::Div, mask, n, a, b),
+        Op::Divu => map_on(Op::Divu, mask, n, a, b),
+        Op::Rem => map_on(Op::Rem, mask, n, a, b),
+        Op::Remu => map_on(Op::Remu, mask, n, a, b),
+        Op::Min => map(Op::Min, n, a, b),
+        Op::Minu => map(Op::Minu, n, a, b),
+        Op::Max => map(Op::Max, n, a, b),
+        Op::Maxu => map(Op::Maxu, n, a, b),
+        Op::Seq => map(Op::Seq, n, a, b),
+        Op::Sne => map(Op::Sne, n, a, b),
+        Op::Sle => map(Op::Sle, n, a, b),
+        Op::Sleu => map(Op::Sleu, n, a, b),
+        Op::Sgt => map(Op::Sgt, n, a, b),
+        Op::Sgtu => map(Op::Sgtu, n, a, b),
+        Op::Move => map(Op::Move, n, a, b),
+    }
+}
+
+// The operation into register d, in each lane of the mask.
+pub fn op_lanes(v: &mut [u32], mask: u32, n: usize, op: Op, d: VReg, a: VReg, b: Operand)
+    requires { ⌜ (length (now v) ≡ fileWords) × ((d .0 < registers) × ((a .0 < registers) × (OperandOk b × (n ≤ lanesMax)))) ⌝ }
+    ensures { λ _. ⌜ now (v .exit) ≡ writeLanes n (bit mask) d (opLane op (now (v .entry)) a b) (now (v .entry)) ⌝ }
+{
+    let mut x = [0u32; LANES];
+    let mut y = [0u32; LANES];
+    get(v, a, n, &mut x);
+    get_operand(v, b, n, &mut y);
+    map_op(op, mask, n, &mut x, &y);
+    put(v, mask, d, n, &x);
+}
+
+// vmv.v and vmv.s.x: the operand into register d, in each lane of the mask.
+pub fn move_lanes(v: &mut [u32], mask: u32, n: usize, d: VReg, b: Operand)
+    requires { ⌜ (length (now v) ≡ fileWords) × ((d .0 < registers) × (OperandOk b × (n ≤ lanesMax))) ⌝ }
+    ensures { λ _. ⌜ now (v .exit) ≡ writeLanes n (bit mask) d (operandOf (now (v .entry)) b) (now (v .entry)) ⌝ }
+{
+    op_lanes(v, mask, n, Op::Move, d, d, b)
+}
+
+// Each lane's own number below n.
+fn count(n: usize, a: &mut [u32; LANES])
+    requires { ⌜ (n ≤ lanesMax) × (length (now a) ≡ lanesMax) ⌝ }
+    ensures { λ _. ⌜ Row n (λ l. l) (now (a .exit)) ⌝ }
+{
+    let mut l = 0;
+    while l < n {
+        a[l] = l as u32;
+        l += 1;
+    }
+}
+
+// vid.v: the lane's number into register d, in each lane of the mask.
+pub fn id_lanes(v: &mut [u32], mask: u32, n: usize, d: VReg)
+    requires { ⌜ (length (now v) ≡ fileWords) × ((d .0 < registers) × (n ≤ lanesMax)) ⌝ }
+    ensures { λ _. ⌜ now (v .exit) ≡ writeLanes n (bit mask) d (λ l. l) (now (v .entry)) ⌝ }
+{
+    let mut x = [0u32; LANES];
+    count(n, &mut x);
+    put(v, mask, d, n, &x);
+}
+
+// A mask of lanes below l, with lane l where t holds.
+pub fn with(m: u32, l: Lane, t: bool) -> u32
+    requires { ⌜ (l .0 < lanesMax) × (m < 2 ^ l .0) ⌝ }
+    ensures { λ r. ⌜ r ≡ maskStep t (l .0) m ⌝ }
+{
+    m | choose(t, 1 << (l.0 as u32), 0)
+}
+
+// The lanes below n in which the compare holds.
+fn hold(c: Cond, n: usize, a: &[u32; LANES], b: &[u32; LANES]) -> u32
+    requires { ⌜ n ≤ lanesMax ⌝ }
+    ensures { λ r. ⌜ r ≡ maskOf n (holdsLane c (now (a .entry)) (now (b .entry))) ⌝ }
+{
+    let mut out = 0;
+    let mut l = 0;
+    while l < n {
+        out = with(out, Lane(l), word::holds(c, a[l], b[l]));
+        l += 1;
+    }
+    out
+}
+
+// The loop at a compare that is known.
+fn hold_op(c: Cond, n: usize, a: &[u32; LANES], b: &[u32; LANES]) -> u32
+    requires { ⌜ n ≤ lanesMax ⌝ }
+    ensures { λ r. ⌜ r ≡ maskOf n (holdsLane c (now (a .entry)) (now (b .entry))) ⌝ }
+{
+    match c {
+        Cond::Eq => hold(Cond::Eq, n, a, b),
+        Cond::Ne => hold(Cond::Ne, n, a, b),
+        Cond::Lt => hold(Cond::Lt, n, a, b),
+        Cond::Ge => hold(Cond::Ge, n, a, b),
+        Cond::Ltu => hold(Cond::Ltu, n, a, b),
+        Cond::Geu => hold(Cond::Geu, n, a, b),
+    }
+}
+
+// VBRANCH's else mask: the lanes of the mask in which the compare holds.
+pub fn else_mask(v: &[u32], mask: u32, n: usize, c: Cond, a: VReg, b: VReg) -> u32
+    requires { ⌜ (length (now v) ≡ fileWords) × ((a .0 < registers) × ((b .0 < registers) × ((n ≤ lanesMax) × (mask < 2 ^ n)))) ⌝ }
+    ensures { λ r. ⌜ r ≡ maskOf n (wantsOf (now (v .entry)) mask c a b) ⌝ }
+{
+    let mut x = [0u32; LANES];
+    let mut y = [0u32; LANES];
+    get(v, a, n, &mut x);
+    get(v, b, n, &mut y);
+    hold_op(c, n, &x, &y) & mask
+}
+
+// The word of the last lane of the mask.
+fn value(mask: u32, n: usize, a: &[u32; LANES]) -> u32
+    requires { ⌜ n ≤ lanesMax ⌝ }
+    ensures { λ r. ⌜ r ≡ valueOf n (bit mask) (at (now (a .entry))) ⌝ }
+{
+    let mut x = 0;
+    let mut l = 0;
+    while l < n {
+        let new = a[l];
+        x = choose(active(mask, Lane(l)), new, x);
+        l += 1;
+    }
+    x
+}
+
+// What the lanes of a mask hold: whether it is one word, and that of the last of them.
+pub struct Shared {
+    pub uniform: bool,
+    pub value: u32,
+}
+
+// vmv.x.s: whether all lanes of the mask hold one word in register a, and that word.
+pub fn uniform(v: &[u32], mask: u32, n: usize, a: VReg) -> Shared
+    requires { ⌜ (length (now v) ≡ fileWords) × ((a .0 < registers) × ((n ≤ lanesMax) × (mask < 2 ^ n))) ⌝ }
+    ensures { λ r. ⌜ (r .uniform ≡ uniformOf n (bit mask) (laneOf (now (v .entry)) a)) × (r .value ≡ valueOf n (bit mask) (laneOf (now (v .entry)) a)) ⌝ }
+{
+    let mut x = [0u32; LANES];
+    let mut y = [0u32; LANES];
+    get(v, a, n, &mut x);
+    let one = value(mask, n, &x);
+    splat(one, n, &mut y);
+    Shared {
+        uniform: hold(Cond::Ne, n, &x, &y) & mask == 0,
+        value: one,
+    }
+}

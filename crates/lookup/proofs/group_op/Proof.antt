@@ -1,0 +1,26 @@
+-- `lookup::group_op` meets its contract: in each range its part of the table answers, and outside them no row has the code. Assumes nothing.
+use borrow.Author.Needs.{needs}
+use native.Mathlib.Omega.{arith}
+use mathlib.Core.Path.{_∙_}
+use mathlib.Core.List.{[]}
+use Rattle.isa.specs.Vector.{products, quotients, multiplyTable}
+use Rattle.lookup.specs.declared.Found.the-variants.{Nothing}
+use Rattle.lookup.specs.Found.{formedAs}
+use Rattle.lookup.proofs.Laws.{within}
+use Rattle.lookup.proofs.group_op.Statement.{statement}
+use Rattle.lookup.proofs.group_op.Tie as tie
+
+pub group-op-spec : {M : Type 1} → statement M
+group-op-spec =
+    tie.close
+    (tie.spec
+    (λ c κs. search needs)
+    (λ c κs. search needs)
+    (λ c.
+    let s = c .before .before .before .args .src in
+    c .quotient .ensures ∙ within (formedAs s) Nothing products quotients [] 32 4 (c .before .before .before .args .funct6) tt (omega arith) (omega arith))
+    (λ c.
+    let s = c .before .before .before .before .args .src in
+    c .product .ensures ∙ within (formedAs s) Nothing [] products quotients 36 4 (c .before .before .before .before .args .funct6) tt (omega arith) (omega arith))
+    (λ c. within (formedAs (c .before .args .src)) Nothing multiplyTable [] [] 0 32 (c .before .args .funct6) tt (omega arith) (omega arith))
+    (λ c. within (formedAs (c .before .before .before .args .src)) Nothing multiplyTable [] [] 40 216 (c .before .before .before .args .funct6) tt (omega arith) (search needs)))

@@ -1,0 +1,15 @@
+-- `lookup::right_shift` meets its contract: each arm is a row of the table. Assumes nothing.
+use mathlib.Core.List.{[]}
+use Rattle.isa.specs.Scalar.{rightShifts}
+use Rattle.lookup.specs.declared.Found.the-variants as F
+use Rattle.isa.specs.Laws.{past}
+use Rattle.lookup.proofs.right_shift.Statement.{statement}
+use Rattle.lookup.proofs.right_shift.Tie as tie
+
+pub right-shift-spec : {M : Type 1} → statement M
+right-shift-spec =
+    tie.close
+    (tie.spec
+    (λ c. simp (c .match .keys1))
+    (λ c. simp (c .match .keys2))
+    (λ c. past F.Is F.Nothing _ rightShifts [] (c .match .rest)))

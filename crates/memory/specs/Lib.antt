@@ -1,0 +1,7 @@
+pub mod Bytes
+pub mod Memory
+pub mod Address
+pub mod LaneAccess
+pub mod Cases
+pub mod Laws
+pub mod Rows

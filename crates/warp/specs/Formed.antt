@@ -1,0 +1,243 @@
+-- A well-formed warp stays so.
+use Prim.Native.Nat.{ℕ, _+_, _-_, _*_, _%_, _^_, _≤_, _<_}
+use mathlib.Core.Path.{_≡_, refl, sym, _∙_}
+use mathlib.Core.Bool.{Bool, true, false, not, _&&_, _||_}
+use mathlib.Core.List.{List, [], _∷_}
+use native.Mathlib.Omega.{arith}
+use native.Mathlib.Nat.{lt-of-lt-of-le, lt-of-le-of-lt, le-of-lt, mul-le-mul}
+use lib.Dec.{eqb, leb, ltb}
+use lib.ListN.{getD, set, drop, length, length-set}
+use lib.Seq.{getD-set-same, getD-set-other, drop-set-lt}
+use lib.Bits.{bitAnd}
+use lib.Pow.{pow-mono}
+use borrow.Author.Tests.{eq-eqb, eqb-true, eqb-false, leb-true, le-leb, ltb-true, not-true}
+use Rattle.isa.specs.declared.CsrOp.{CsrOp}
+use Rattle.isa.specs.declared.XReg.{XReg}
+use Rattle.warp.specs.declared.Split.{Split}
+use Rattle.warp.specs.declared.Fixed.{Fixed}
+use Rattle.warp.specs.declared.Warp.{Warp}
+use Rattle.warp.specs.Warp.{splitCount, maxThreads, maxWarps, zeroSplit, aligned, withPc, withRpc, withPrint, withStop, setX, writeX, nextPc, next, Answer, reachOf, jumpOf, linkOf}
+use Rattle.warp.specs.WellFormed.{between, fixedOkOf, chainOf, isZero, allZero, wellFormedOf}
+use Rattle.warp.specs.Splits.{openOf, vbranchOf, lastSplit, turned, turnOf, closeOf, joinOf, setRpcOf}
+use Rattle.warp.specs.SplitLaws.{by-cond}
+use Rattle.warp.specs.Csr.{tidOf, isCsr, isPrint, isRpc, writesOf, csrOf}
+use Rattle.warp.specs.Chain.{both, every-at, zero-step, chain-le}
+use Rattle.warp.specs.Moves.{Cuts, Held, held, opens, joins, fits, last-good}
+
+-- ---- the fixed values
+
+pub record FixedOk (f : Fixed) : Type 0 where
+  pub lanes : (1 ≤ f .numt) × (f .numt ≤ maxThreads)
+  pub warps : (1 ≤ f .numw) × (f .numw ≤ maxWarps)
+  pub wid : f .wid < f .numw
+  pub some : 0 < f .launchmask
+  pub mask : f .launchmask < 2 ^ f .numt
+  pub code : f .codebase % 4 ≡ 0
+
+ends : (low n high : ℕ) → between low n high ≡ true → (low ≤ n) × (n ≤ high)
+ends low n high e = let p = both (leb low n) (leb n high) e in (leb-true _ _ (p .0), leb-true _ _ (p .1))
+
+pub fixed-ok : (f : Fixed) → fixedOkOf f ≡ true → FixedOk f
+unfolding fixedOkOf
+fixed-ok f e =
+    let p =
+    every-at
+    (between 1 (f .numt) maxThreads ∷ between 1 (f .numw) maxWarps ∷ ltb (f .wid) (f .numw) ∷ not (eqb (f .launchmask) 0) ∷ ltb (f .launchmask) (2 ^ f .numt) ∷ aligned (f .codebase) ∷ [])
+    e in
+    let z : f .launchmask ≡ 0 → ⊥ = eqb-false _ _ (not-true _ (p 3)) in
+    record {
+      lanes = ends 1 (f .numt) maxThreads (p 0);
+      warps = ends 1 (f .numw) maxWarps (p 1);
+      wid = ltb-true _ _ (p 2);
+      some = omega arith;
+      mask = ltb-true _ _ (p 4);
+      code = eqb-true _ _ (p 5);
+    }
+
+-- TID fits a word
+pub tid-small : (f : Fixed) → FixedOk f → tidOf f ≤ maxWarps * maxThreads
+tid-small f k = mul-le-mul (le-of-lt (lt-of-lt-of-le (k .wid) (k .warps .1))) (k .lanes .1)
+
+-- ---- the test, part by part
+
+pub record Formed (w : Warp) : Type 0 where
+  pub long : length (w .splits) ≡ splitCount
+  pub fixed : fixedOkOf (w .fixed) ≡ true
+  pub pc : w .pc % 4 ≡ 0
+  pub x0 : getD (w .x) 0 0 ≡ 0
+  pub deep : w .depth ≤ splitCount
+  pub unused : allZero (drop (w .depth) (w .splits)) ≡ true
+  pub one : not (w .ended && w .waiting) ≡ true
+  pub chain : chainOf (w .fixed .launchmask) (w .splits) (w .depth) (w .mask) ≡ true
+  pub quiet : not ((w .ended || w .waiting) && ltb 0 (w .depth)) ≡ true
+
+abbrev tests : Warp → List Bool
+tests w =
+    fixedOkOf (w .fixed) ∷ aligned (w .pc) ∷ eqb (getD (w .x) 0 0) 0 ∷ leb (w .depth) splitCount ∷ allZero (drop (w .depth) (w .splits)) ∷ not (w .ended && w .waiting)
+    ∷ chainOf (w .fixed .launchmask) (w .splits) (w .depth) (w .mask) ∷ not ((w .ended || w .waiting) && ltb 0 (w .depth)) ∷ []
+
+-- no more splits are open than there is room for, whatever the length of the list
+pub depth-le : (w : Warp) → wellFormedOf w ≡ true → w .depth ≤ splitCount
+unfolding wellFormedOf
+depth-le w e = leb-true _ _ (every-at (tests w) e 3)
+
+pub formed : (w : Warp) → length (w .splits) ≡ splitCount → wellFormedOf w ≡ true → Formed w
+unfolding wellFormedOf
+formed w n e =
+    let p = every-at (tests w) e in
+    record { long = n; fixed = p 0; pc = eqb-true _ _ (p 1); x0 = eqb-true _ _ (p 2); deep = leb-true _ _ (p 3); unused = p 4; one = p 5; chain = p 6; quiet = p 7 }
+
+pub well : (w : Warp) → Formed w → wellFormedOf w ≡ true
+unfolding wellFormedOf
+well w f = simp (f .fixed, eq-eqb _ _ (f .pc), eq-eqb _ _ (f .x0), le-leb _ _ (f .deep), f .unused, f .one, f .chain, f .quiet)
+
+pub held-of : (w : Warp) → Formed w → Held w
+held-of w f =
+    let n = fixed-ok (w .fixed) (f .fixed) in
+    record { long = f .long; some = n .some; small = lt-of-lt-of-le (n .mask) (pow-mono (n .lanes .1)); chain = f .chain }
+
+-- the active mask has no lane at or above NUMT
+pub mask-small : (w : Warp) → Formed w → w .mask < 2 ^ w .fixed .numt
+mask-small w f =
+    lt-of-le-of-lt (chain-le (w .fixed .launchmask) (w .splits) (w .depth) (w .mask) (f .chain)) (fixed-ok (w .fixed) (f .fixed) .mask)
+
+-- ---- what leaves the splits alone
+
+pub next-pc : (p : ℕ) → p % 4 ≡ 0 → (p + 4) % 2 ^ 32 % 4 ≡ 0
+next-pc p h = omega arith
+
+put-x0 : (r : XReg) (y : ℕ) (x : List ℕ) → getD x 0 0 ≡ 0 → getD (setX r y x) 0 0 ≡ 0
+put-x0 r y x h =
+    by-cond (λ (l : List ℕ). getD l 0 0 ≡ 0) (eqb (r .0) 0) _ _ (λ e. h)
+    (λ e. let n : r .0 ≡ 0 → ⊥ = eqb-false (r .0) 0 e in getD-set-other {A = ℕ} x (r .0) 0 y 0 (omega arith) ∙ h)
+
+abbrev FormedAnswer : Answer → Type 0
+FormedAnswer a = Formed (a .warp)
+
+module _ (w : Warp) (f : Formed w) where
+  pub formed-pc : (p : ℕ) → p % 4 ≡ 0 → Formed (withPc p w)
+  formed-pc p a = record { long = f .long; fixed = f .fixed; pc = a; x0 = f .x0; deep = f .deep; unused = f .unused; one = f .one; chain = f .chain; quiet = f .quiet }
+
+  pub formed-next : Formed (next w)
+  formed-next = formed-pc (nextPc w) (next-pc (w .pc) (f .pc))
+
+  pub formed-x : (r : XReg) (y : ℕ) → Formed (writeX r y w)
+  formed-x r y =
+      record { long = f .long; fixed = f .fixed; pc = f .pc; x0 = put-x0 r y (w .x) (f .x0); deep = f .deep; unused = f .unused; one = f .one; chain = f .chain; quiet = f .quiet }
+
+  pub formed-rpc : (y : ℕ) → Formed (withRpc y w)
+  formed-rpc y = record { long = f .long; fixed = f .fixed; pc = f .pc; x0 = f .x0; deep = f .deep; unused = f .unused; one = f .one; chain = f .chain; quiet = f .quiet }
+
+  pub formed-print : (y : ℕ) → Formed (withPrint y w)
+  formed-print y = record { long = f .long; fixed = f .fixed; pc = f .pc; x0 = f .x0; deep = f .deep; unused = f .unused; one = f .one; chain = f .chain; quiet = f .quiet }
+
+  -- with no split open a warp may end, wait or go on
+  pub formed-stop : (e b : Bool) → not (e && b) ≡ true → w .depth ≡ 0 → Formed (withStop e b w)
+  formed-stop e b n z =
+      record { long = f .long; fixed = f .fixed; pc = f .pc; x0 = f .x0; deep = f .deep; unused = f .unused; one = n; chain = f .chain; quiet = none-open e b }
+    where
+      none-open : (e b : Bool) → not ((e || b) && ltb 0 (w .depth)) ≡ true
+      none-open true b = rw z
+      none-open false true = rw z
+      none-open false false = refl
+
+  pub formed-reach : (p : ℕ) (v : Warp) → (p % 4 ≡ 0 → Formed v) → FormedAnswer (reachOf p v w)
+  unfolding reachOf
+  formed-reach p v g = by-cond FormedAnswer (aligned p) _ _ (λ a. g (eqb-true _ _ a)) (λ a. f)
+
+pub formed-jump : (p : ℕ) (w : Warp) → Formed w → FormedAnswer (jumpOf p w)
+formed-jump p w f = formed-reach w f p (withPc p w) (λ a. formed-pc w f p a)
+
+pub formed-link : (rd : XReg) (p : ℕ) (w : Warp) → Formed w → FormedAnswer (linkOf rd p w)
+formed-link rd p w f = formed-reach w f p (withPc p (writeX rd (nextPc w) w)) (λ a. formed-pc (writeX rd (nextPc w) w) (formed-x w f rd (nextPc w)) p a)
+
+pub formed-setrpc : (rd rs1 : XReg) (i : ℕ) (w : Warp) → Formed w → Formed (setRpcOf rd rs1 i w)
+unfolding setRpcOf
+formed-setrpc rd rs1 i w f = formed-next _ (formed-x _ (formed-rpc w f _) rd _)
+
+pub formed-csr : (op : CsrOp) (n : ℕ) (rd : XReg) (rs1 y : ℕ) (w : Warp) → Formed w → FormedAnswer (csrOf op n rd rs1 y w)
+unfolding csrOf
+formed-csr op n rd rs1 y w f =
+    by-cond FormedAnswer (isCsr n && (not (writesOf op rs1) || (isPrint n || isRpc n))) _ _
+    (λ t. formed-next _ (formed-x _ (by-cond Formed (writesOf op rs1) _ _ (λ e. by-cond Formed (isPrint n) _ _ (λ p. formed-print w f _) (λ p. formed-rpc w f _)) (λ e. f)) rd _))
+    (λ t. f)
+
+-- ---- what moves the splits
+
+unused-above : (ss : List Split) (d : ℕ) (s : Split) → d < length ss → allZero (drop d ss) ≡ true → allZero (drop (d + 1) (set ss d s)) ≡ true
+unused-above ss d s h e =
+    rw (drop-set-lt (d + 1) ss d s (omega arith)) (both (isZero (getD ss d zeroSplit)) (allZero (drop (d + 1) ss)) (sym (zero-step ss d h) ∙ e) .1)
+
+unused-freed : (ss : List Split) (d : ℕ) → 0 < d → d ≤ length ss → allZero (drop d ss) ≡ true → allZero (drop (d - 1) (set ss (d - 1) zeroSplit)) ≡ true
+unused-freed ss d p h e =
+    let k : d - 1 + 1 ≡ d = omega arith in
+    zero-step (set ss (d - 1) zeroSplit) (d - 1) (omega (arith, length-set ss (d - 1) zeroSplit))
+    ∙ rw (getD-set-same ss (d - 1) zeroSplit zeroSplit (omega arith), drop-set-lt (d - 1 + 1) ss (d - 1) zeroSplit (omega arith), k) e
+
+still-quiet : (a b c : Bool) → a ≡ false → b ≡ false → not ((a || b) && c) ≡ true
+still-quiet a b c p q = simp (p, q)
+
+module _ (w : Warp) (f : Formed w) (en : w .ended ≡ false) (wa : w .waiting ≡ false) where
+  pub formed-open : (e p : ℕ) → Cuts e p w → Formed (openOf e p w)
+  unfolding openOf
+  formed-open e p o =
+      let h : Held w = held-of w f in
+      let k : w .depth < splitCount = fits e p w h o in
+      let g : Held (openOf e p w) = held w (openOf e p w) h (opens e p o refl) in
+      record {
+        long = g .long;
+        fixed = f .fixed;
+        pc = next-pc (w .pc) (f .pc);
+        x0 = f .x0;
+        deep = omega arith;
+        unused = unused-above (w .splits) (w .depth) _ (omega (arith, f .long)) (f .unused);
+        one = f .one;
+        chain = g .chain;
+        quiet = still-quiet _ _ _ en wa;
+      }
+
+  pub formed-vbranch : (e p : ℕ) → bitAnd e (w .mask) ≡ e → FormedAnswer (vbranchOf e p w)
+  unfolding vbranchOf
+  formed-vbranch e p i =
+      by-cond FormedAnswer (eqb e 0) _ _ (λ z. formed-next w f)
+      (λ z. formed-reach w f p _
+      (λ a. by-cond Formed (eqb e (w .mask)) _ _ (λ m. formed-pc w f p a)
+      (λ m. formed-open e p (record { within = i; some = eqb-false _ _ z; strict = eqb-false _ _ m; aligned = a }))))
+
+  formed-turn : (w .depth ≡ 0 → ⊥) → Held (turnOf (lastSplit w) w) → Formed (turnOf (lastSplit w) w)
+  formed-turn d h =
+      record {
+        long = h .long;
+        fixed = f .fixed;
+        pc = last-good w (held-of w f) d .aligned;
+        x0 = f .x0;
+        deep = f .deep;
+        unused = rw (drop-set-lt (w .depth) (w .splits) (w .depth - 1) (turned (lastSplit w)) (omega arith)) (f .unused);
+        one = f .one;
+        chain = h .chain;
+        quiet = f .quiet;
+      }
+
+  formed-close : (w .depth ≡ 0 → ⊥) → Held (closeOf (lastSplit w) w) → Formed (closeOf (lastSplit w) w)
+  formed-close d h =
+      let l : w .depth ≤ splitCount = f .deep in
+      record {
+        long = h .long;
+        fixed = f .fixed;
+        pc = f .pc;
+        x0 = f .x0;
+        deep = omega arith;
+        unused = unused-freed (w .splits) (w .depth) (omega arith) (omega (arith, f .long)) (f .unused);
+        one = f .one;
+        chain = h .chain;
+        quiet = still-quiet _ _ _ en wa;
+      }
+
+  pub formed-join : Formed (joinOf w)
+  unfolding joinOf
+  formed-join =
+      by-cond (λ (v : Warp). Held v → Formed v) (eqb (w .depth) 0) _ _ (λ z k. formed-next w f)
+      (λ z. by-cond (λ (v : Warp). Held v → Formed v) (eqb (w .pc) (lastSplit w .rpc)) _ _
+      (λ q. by-cond (λ (v : Warp). Held v → Formed v) (lastSplit w .phasetwo) _ _ (λ s k. formed-close (eqb-false _ _ z) k) (λ s k. formed-turn (eqb-false _ _ z) k))
+      (λ q k. formed-next w f))
+      (held w (joinOf w) (held-of w f) (joins refl))

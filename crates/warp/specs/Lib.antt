@@ -1,0 +1,11 @@
+pub mod Warp
+pub mod WellFormed
+pub mod Splits
+pub mod Csr
+pub mod SplitLaws
+pub mod CsrLaws
+pub mod Chain
+pub mod Moves
+pub mod Words
+pub mod Formed
+pub mod Cases

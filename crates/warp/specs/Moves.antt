@@ -1,0 +1,234 @@
+-- What a step does to the splits, and what holds through any number of steps.
+use Prim.Native.Nat.{ℕ, suc, _+_, _-_, _%_, _^_, _≤_, _<_}
+use mathlib.Core.Path.{_≡_, refl, sym, _∙_, ap, subst}
+use mathlib.Core.Bool.{true}
+use mathlib.Core.List.{List}
+use mathlib.Core.Logic.{⊎-elim}
+use native.Mathlib.Nat.{eq-or-lt-of-le}
+use native.Mathlib.Omega.{arith}
+use native.Mathlib.Numerals.{add-one}
+use lib.Dec.{eqb}
+use lib.ListN.{getD, set, length, length-set, List·getD-map}
+use lib.Seq.{getD-set-same, getD-set-other, map-set-same}
+use lib.Bits.{bitAnd, and-le-r}
+use lib.Count.{ones, ones-le}
+use borrow.Author.Tests.{eqb-false}
+use Rattle.warp.specs.declared.Split.{Split}
+use Rattle.warp.specs.declared.Warp.{Warp}
+use Rattle.lanes.specs.Mask.{bitAt}
+use Rattle.lanes.specs.MaskLaws.{cut-bit, cut-ones, ones-pos}
+use Rattle.warp.specs.Warp.{splitCount, maxThreads, zeroSplit}
+use Rattle.warp.specs.WellFormed.{splitOkOf, chainOf}
+use Rattle.warp.specs.Splits.{opened, openOf, lastSplit, turned, turnOf, closeOf, joinOf}
+use Rattle.warp.specs.SplitLaws.{by-cond}
+use Rattle.warp.specs.Chain.{both, Good, good, parkedIn, covered, fewer, chain-step, chain-set, chain-more}
+
+-- active lanes that disagree: those of e, some but not all, go to p
+pub record Cuts (e p : ℕ) (w : Warp) : Type 0 where
+  pub within : bitAnd e (w .mask) ≡ e
+  pub some : e ≡ 0 → ⊥
+  pub strict : e ≡ w .mask → ⊥
+  pub aligned : p % 4 ≡ 0
+
+-- a step that leaves the splits alone
+pub record Leaves (w v : Warp) : Type 0 where
+  pub splits : v .splits ≡ w .splits
+  pub depth : v .depth ≡ w .depth
+  pub mask : v .mask ≡ w .mask
+  pub fixed : v .fixed ≡ w .fixed
+
+pub data Moves (w v : Warp) : Type 0 where
+  opens : (e p : ℕ) → Cuts e p w → v ≡ openOf e p w → Moves w v
+  joins : v ≡ joinOf w → Moves w v
+  leaves : Leaves w v → Moves w v
+
+-- what every step keeps of the splits
+pub record Held (w : Warp) : Type 0 where
+  pub long : length (w .splits) ≡ splitCount
+  pub some : 0 < w .fixed .launchmask
+  pub small : w .fixed .launchmask < 2 ^ 32
+  pub chain : chainOf (w .fixed .launchmask) (w .splits) (w .depth) (w .mask) ≡ true
+
+-- Each launched lane is active or parked in just one open split, and no other lane is either.
+pub lanes-covered : (l : ℕ) (w : Warp) → Held w → bitAt l (w .mask) + parkedIn l (w .splits) (w .depth) ≡ bitAt l (w .fixed .launchmask)
+lanes-covered l w h = covered l (w .fixed .launchmask) (w .splits) (w .depth) (w .mask) (h .chain)
+
+-- Fewer splits are open than lanes were launched.
+pub splits-fewer : (w : Warp) → Held w → w .depth < ones (w .fixed .launchmask)
+splits-fewer w h =
+    let f = fewer (w .fixed .launchmask) (w .splits) (w .depth) (w .mask) (h .some) (h .chain) in
+    omega (arith, ones-pos (w .mask) (f .1))
+
+-- ---- a split opens
+
+-- where some lanes of m but not all are in e, there are two at least
+pub cut-two : (e m : ℕ) → bitAnd e m ≡ e → (e ≡ 0 → ⊥) → (e ≡ m → ⊥) → 2 ≤ ones m
+cut-two e m i z n = omega (arith, cut-ones m e i, ones-pos e (omega arith), ones-pos (m - e) (omega (arith, and-le-r e m)), and-le-r e m)
+
+-- each open split parks a lane, so that with the active ones they are at most as many as a warp has
+pub room : (w : Warp) → Held w → (w .depth + ones (w .mask) ≤ maxThreads) × (0 < w .mask)
+room w h = omega (arith, fewer (w .fixed .launchmask) (w .splits) (w .depth) (w .mask) (h .some) (h .chain), ones-le 32 (w .fixed .launchmask) (h .small))
+
+-- The split records never overflow.
+pub fits : (e p : ℕ) (w : Warp) → Held w → Cuts e p w → w .depth < splitCount
+fits e p w h o = omega (arith, room w h, cut-two e (w .mask) (o .within) (o .some) (o .strict))
+
+-- m is cut in two: neither part is empty, and each lane of m is in one of them alone
+pub record CutInTwo (m a b : ℕ) : Type 0 where
+  pub one : 0 < a
+  pub other : 0 < b
+  pub lanes : (l : ℕ) → bitAt l m ≡ bitAt l a + bitAt l b
+
+-- Opening cuts the active mask in two, the lanes that run and those that are parked.
+pub split-cuts : (e p : ℕ) (w : Warp) → Held w → Cuts e p w → CutInTwo (w .mask) (lastSplit (openOf e p w) .elsemask) (openOf e p w .mask)
+unfolding openOf
+split-cuts e p w h o =
+    let d : w .depth + 1 - 1 ≡ w .depth = omega arith in
+    rw (d, getD-set-same (w .splits) (w .depth) (opened e p w) zeroSplit (omega (arith, h .long, fits e p w h o)))
+    (record {
+      one = omega (arith, o .some);
+      other = omega (arith, and-le-r e (w .mask), o .within, o .strict);
+      lanes = λ l. cut-bit l e (w .mask) (o .within);
+    })
+
+held-open : (e p : ℕ) (w : Warp) → Held w → Cuts e p w → Held (openOf e p w)
+unfolding openOf
+held-open e p w h o =
+    record {
+      long = length-set (w .splits) (w .depth) _ ∙ h .long;
+      some = h .some;
+      small = h .small;
+      chain =
+          rw add-one (chain-more (w .fixed .launchmask) (w .splits) (w .depth) (w .mask - e) (opened e p w)
+          (omega (arith, h .long, fits e p w h o))
+          (record { some = o .some; strict = o .strict; within = o .within; aligned = o .aligned; runs = refl })
+          (h .chain));
+    }
+
+-- ---- JOIN, at the last split
+
+module _ (w : Warp) (h : Held w) (d : w .depth ≡ 0 → ⊥) where
+  last : (splitOkOf (lastSplit w) (w .mask) ≡ true) × (chainOf (w .fixed .launchmask) (w .splits) (w .depth - 1) (lastSplit w .full) ≡ true)
+  last =
+      both (splitOkOf (lastSplit w) (w .mask)) (chainOf (w .fixed .launchmask) (w .splits) (w .depth - 1) (lastSplit w .full))
+      (sym (chain-step (w .fixed .launchmask) (w .splits) (w .depth) (w .mask) (omega arith)) ∙ h .chain)
+
+  pub last-good : Good (lastSplit w) (w .mask)
+  last-good = good (lastSplit w) (w .mask) (last .0)
+
+  held-turn : Held (turnOf (lastSplit w) w)
+  held-turn =
+      let g : Good (lastSplit w) (w .mask) = last-good in
+      let n : suc (w .depth - 1) ≡ w .depth = omega arith in
+      record {
+        long = length-set (w .splits) (w .depth - 1) _ ∙ h .long;
+        some = h .some;
+        small = h .small;
+        chain =
+            subst (λ (k : ℕ). chainOf (w .fixed .launchmask) (set (w .splits) (w .depth - 1) (turned (lastSplit w))) k (lastSplit w .elsemask) ≡ true) n
+            (chain-more (w .fixed .launchmask) (w .splits) (w .depth - 1) (lastSplit w .elsemask) (turned (lastSplit w))
+            (omega (arith, h .long, room w h, ones-pos (w .mask) (room w h .1)))
+            (record { some = g .some; strict = g .strict; within = g .within; aligned = g .aligned; runs = refl })
+            (last .1));
+      }
+
+  held-close : Held (closeOf (lastSplit w) w)
+  held-close =
+      record {
+        long = length-set (w .splits) (w .depth - 1) zeroSplit ∙ h .long;
+        some = h .some;
+        small = h .small;
+        chain = chain-set (w .fixed .launchmask) (w .splits) (w .depth - 1) zeroSplit (w .depth - 1) (lastSplit w .full) (omega arith) ∙ last .1;
+      }
+
+held-leaves : (w v : Warp) → Held w → Leaves w v → Held v
+held-leaves w v h l =
+    record {
+      long = rw (l .splits) (h .long);
+      some = rw (l .fixed) (h .some);
+      small = rw (l .fixed) (h .small);
+      chain = rw (l .splits, l .depth, l .mask, l .fixed) (h .chain);
+    }
+
+held-join : (w : Warp) → Held w → Held (joinOf w)
+unfolding joinOf
+held-join w h =
+    by-cond Held (eqb (w .depth) 0) _ _ (λ z. held-leaves w _ h (record { splits = refl; depth = refl; mask = refl; fixed = refl }))
+    (λ z. by-cond Held (eqb (w .pc) (lastSplit w .rpc)) _ _
+    (λ q. by-cond Held (lastSplit w .phasetwo) _ _ (λ s. held-close w h (eqb-false _ _ z)) (λ s. held-turn w h (eqb-false _ _ z)))
+    (λ q. held-leaves w _ h (record { splits = refl; depth = refl; mask = refl; fixed = refl })))
+
+-- What is held is held after a step.
+pub held : (w v : Warp) → Held w → Moves w v → Held v
+held w v h (opens e p o q) = rw q (held-open e p w h o)
+held w v h (joins q) = rw q (held-join w h)
+held w v h (leaves l) = held-leaves w v h l
+
+-- ---- the mask comes back
+
+-- split k is open, and its full mask is m
+pub record Under (k m : ℕ) (w : Warp) : Type 0 where
+  pub above : k < w .depth
+  pub full : getD (w .splits) k zeroSplit .full ≡ m
+
+full-set : (ss : List Split) (i k : ℕ) (s : Split) → s .full ≡ getD ss i zeroSplit .full → getD (set ss i s) k zeroSplit .full ≡ getD ss k zeroSplit .full
+full-set ss i k s e =
+    sym (List·getD-map (λ (x : Split). x .full) (set ss i s) k zeroSplit)
+    ∙ ap (λ (l : List ℕ). getD l k 0) (map-set-same (λ (x : Split). x .full) ss i s zeroSplit e)
+    ∙ List·getD-map (λ (x : Split). x .full) ss k zeroSplit
+
+-- after a step either split k is open as before, or the count is k and the mask is m
+pub data After (k m : ℕ) (v : Warp) : Type 0 where
+  still : Under k m v → After k m v
+  back : v .depth ≡ k → v .mask ≡ m → After k m v
+
+k-le : (k m : ℕ) (w : Warp) → Under k m w → k ≤ w .depth - 1
+k-le k m w u = omega arith
+
+after-close : (k m : ℕ) (w : Warp) → Under k m w → After k m (closeOf (lastSplit w) w)
+after-close k m w u =
+    ⊎-elim (λ e. back (sym e) (ap (λ (i : ℕ). getD (w .splits) i zeroSplit .full) (sym e) ∙ u .full))
+    (λ l. still (record { above = l; full = ap (λ (x : Split). x .full) (getD-set-other (w .splits) (w .depth - 1) k zeroSplit zeroSplit (omega arith)) ∙ u .full }))
+    (eq-or-lt-of-le (k-le k m w u))
+
+after-join : (k m : ℕ) (w : Warp) → Under k m w → After k m (joinOf w)
+unfolding joinOf
+after-join k m w u =
+    by-cond (After k m) (eqb (w .depth) 0) _ _ (λ z. still (record { above = u .above; full = u .full }))
+    (λ z. by-cond (After k m) (eqb (w .pc) (lastSplit w .rpc)) _ _
+    (λ q. by-cond (After k m) (lastSplit w .phasetwo) _ _ (λ s. after-close k m w u)
+    (λ s. still (record { above = u .above; full = full-set (w .splits) (w .depth - 1) k (turned (lastSplit w)) refl ∙ u .full })))
+    (λ q. still (record { above = u .above; full = u .full })))
+
+pub after : (k m : ℕ) (w v : Warp) → Under k m w → Moves w v → After k m v
+unfolding openOf
+after k m w v u (opens e p o q) =
+    rw q (still (record { above = omega arith; full = ap (λ (s : Split). s .full) (getD-set-other (w .splits) (w .depth) k _ zeroSplit (omega arith)) ∙ u .full }))
+after k m w v u (joins q) = rw q (after-join k m w u)
+after k m w v u (leaves l) = still (record { above = rw (l .depth) (u .above); full = rw (l .splits) (u .full) })
+
+begun : (e p : ℕ) (w : Warp) → Held w → Cuts e p w → Under (w .depth) (w .mask) (openOf e p w)
+unfolding openOf
+begun e p w h o =
+    record { above = omega arith; full = ap (λ (s : Split). s .full) (getD-set-same (w .splits) (w .depth) _ zeroSplit (omega (arith, h .long, fits e p w h o))) }
+
+-- any number of steps from w to v, through all of which more than k splits are open
+pub data Above (k : ℕ) : Warp → Warp → Type 0 where
+  here : {w : Warp} → k < w .depth → Above k w w
+  on : {w v u : Warp} → Above k w v → Moves v u → k < u .depth → Above k w u
+
+along : (k m : ℕ) (w v : Warp) → Under k m w → Above k w v → Under k m v
+along k m w v u (here a) = u
+along k m w v u (on {v = x} p s a) = stays (after k m x v (along k m w x u p) s)
+  where
+    stays : After k m v → Under k m v
+    stays (still y) = y
+    stays (back d e) = absurd (omega arith)
+
+-- When the count of open splits first falls back to what it was before a split, the mask is the one held just before that split.
+pub restored : (e p : ℕ) (w u z : Warp) → Held w → Cuts e p w → Above (w .depth) (openOf e p w) u → Moves u z → z .depth ≤ w .depth → z .mask ≡ w .mask
+restored e p w u z h o a s d = falls (after (w .depth) (w .mask) u z (along (w .depth) (w .mask) (openOf e p w) u (begun e p w h o) a) s)
+  where
+    falls : After (w .depth) (w .mask) z → z .mask ≡ w .mask
+    falls (still y) = absurd (omega arith)
+    falls (back x y) = y

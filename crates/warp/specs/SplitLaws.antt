@@ -1,0 +1,59 @@
+-- JOIN and VBRANCH, case by case.
+use Prim.Native.Nat.{ℕ, _%_}
+use mathlib.Core.Path.{_≡_, refl}
+use mathlib.Core.Bool.{Bool, true, false, cond}
+use borrow.Author.Tests.{eq-eqb, ne-eqb}
+use Rattle.warp.specs.declared.Warp.{Warp}
+use Rattle.warp.specs.Warp.{withPc, next, answer, reachOf}
+use Rattle.warp.specs.Splits.{openOf, vbranchOf, lastSplit, turnOf, closeOf, joinOf}
+
+-- a choice has what both of its sides have
+abbrev pub by-cond : {A : Type 0} (P : A → Type 0) (b : Bool) (x y : A) → (b ≡ true → P x) → (b ≡ false → P y) → P (cond b x y)
+by-cond P true x y f g = f refl
+by-cond P false x y f g = g refl
+
+module _ (p : ℕ) (v w : Warp) where
+  pub reach-goes : p % 4 ≡ 0 → answer 0 v ≡ reachOf p v w
+  unfolding reachOf
+  reach-goes a = simp (eq-eqb _ _ a)
+
+  pub reach-stays : (p % 4 ≡ 0 → ⊥) → answer 8 w ≡ reachOf p v w
+  unfolding reachOf
+  reach-stays a = simp (ne-eqb _ _ a)
+
+pub join-none : (w : Warp) → w .depth ≡ 0 → next w ≡ joinOf w
+unfolding joinOf
+join-none w z = simp (eq-eqb _ _ z)
+
+module _ (w : Warp) (d : w .depth ≡ 0 → ⊥) where
+  pub join-off : (w .pc ≡ lastSplit w .rpc → ⊥) → next w ≡ joinOf w
+  unfolding joinOf
+  join-off p = simp (ne-eqb _ _ d, ne-eqb _ _ p)
+
+  module _ (p : w .pc ≡ lastSplit w .rpc) where
+    pub join-turn : lastSplit w .phasetwo ≡ false → turnOf (lastSplit w) w ≡ joinOf w
+    unfolding joinOf
+    join-turn s = simp (ne-eqb _ _ d, eq-eqb _ _ p, s)
+
+    pub join-close : lastSplit w .phasetwo ≡ true → closeOf (lastSplit w) w ≡ joinOf w
+    unfolding joinOf
+    join-close s = simp (ne-eqb _ _ d, eq-eqb _ _ p, s)
+
+module _ (e p : ℕ) (w : Warp) where
+  pub vbranch-none : e ≡ 0 → answer 0 (next w) ≡ vbranchOf e p w
+  unfolding vbranchOf
+  vbranch-none z = simp (eq-eqb _ _ z)
+
+  module _ (z : e ≡ 0 → ⊥) where
+    pub vbranch-refused : (p % 4 ≡ 0 → ⊥) → answer 8 w ≡ vbranchOf e p w
+    unfolding vbranchOf reachOf
+    vbranch-refused a = simp (ne-eqb _ _ z, ne-eqb _ _ a)
+
+    module _ (a : p % 4 ≡ 0) where
+      pub vbranch-all : e ≡ w .mask → answer 0 (withPc p w) ≡ vbranchOf e p w
+      unfolding vbranchOf reachOf
+      vbranch-all m = simp (ne-eqb _ _ z, eq-eqb _ _ a, eq-eqb _ _ m)
+
+      pub vbranch-opens : (e ≡ w .mask → ⊥) → answer 0 (openOf e p w) ≡ vbranchOf e p w
+      unfolding vbranchOf reachOf
+      vbranch-opens m = simp (ne-eqb _ _ z, eq-eqb _ _ a, ne-eqb _ _ m)

@@ -1,0 +1,47 @@
+-- Splits and joins.
+use Prim.Native.Nat.{ℕ, _+_, _-_}
+use mathlib.Core.Bool.{true, false, cond}
+use lib.Dec.{eqb}
+use lib.ListN.{getD, set}
+use Rattle.isa.specs.declared.XReg.{XReg}
+use Rattle.warp.specs.declared.Split.{Split}
+use Rattle.warp.specs.declared.Warp.{Warp}
+use Rattle.warp.specs.Warp.{zeroSplit, withPc, withRpc, withSplits, writeX, readX, next, Answer, answer, reachOf}
+use Rattle.word.specs.Word.{addOf, extendOf}
+
+-- the split that opens: the lanes of e want p
+abbrev pub opened : ℕ → ℕ → Warp → Split
+opened e p w = record { rpc = w .rpc; full = w .mask; elsemask = e; elsepc = p; phasetwo = false }
+
+-- a split opens; the PC + 4 lanes run first
+unfoldable pub openOf : ℕ → ℕ → Warp → Warp
+openOf e p w = next (withSplits (set (w .splits) (w .depth) (opened e p w)) (w .depth + 1) (w .mask - e) w)
+
+-- VBRANCH, where the lanes of e want the else PC p: all agree, and there is no split, or one opens
+unfoldable pub vbranchOf : ℕ → ℕ → Warp → Answer
+vbranchOf e p w = cond (eqb e 0) (answer 0 (next w)) (reachOf p (cond (eqb e (w .mask)) (withPc p w) (openOf e p w)) w)
+
+-- the last split opened
+abbrev pub lastSplit : Warp → Split
+lastSplit w = getD (w .splits) (w .depth - 1) zeroSplit
+
+-- phase one goes to phase two: the else lanes run at the else PC
+abbrev pub turned : Split → Split
+turned s = record { rpc = s .rpc; full = s .full; elsemask = s .elsemask; elsepc = s .elsepc; phasetwo = true }
+
+abbrev pub turnOf : Split → Warp → Warp
+turnOf s w = withPc (s .elsepc) (withSplits (set (w .splits) (w .depth - 1) (turned s)) (w .depth) (s .elsemask) w)
+
+-- in phase two the split closes, and the PC stays on the JOIN
+abbrev pub closeOf : Split → Warp → Warp
+closeOf s w = withSplits (set (w .splits) (w .depth - 1) zeroSplit) (w .depth - 1) (s .full) w
+
+-- JOIN
+unfoldable pub joinOf : Warp → Warp
+joinOf w =
+    cond (eqb (w .depth) 0) (next w)
+    (cond (eqb (w .pc) (lastSplit w .rpc)) (cond (lastSplit w .phasetwo) (closeOf (lastSplit w) w) (turnOf (lastSplit w) w)) (next w))
+
+-- SETRPC: rs1 + the sign-extended immediate i to RPC and rd
+unfoldable pub setRpcOf : XReg → XReg → ℕ → Warp → Warp
+setRpcOf rd rs1 i w = let y : ℕ = addOf (readX rs1 w) (extendOf 12 i) in next (writeX rd y (withRpc y w))

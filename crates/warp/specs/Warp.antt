@@ -1,0 +1,144 @@
+-- The state of a warp: its zero values, its setters, and what every word does to it.
+use Prim.Native.Nat.{ℕ, _%_}
+use mathlib.Core.Bool.{Bool, false, cond}
+use mathlib.Core.List.{List}
+use lib.Dec.{eqb}
+use lib.ListN.{getD, set, replicate}
+use Rattle.isa.specs.declared.XReg.{XReg}
+use Rattle.lanes.specs.Lanes.{lanesMax}
+use Rattle.warp.specs.declared.Split.{Split}
+use Rattle.warp.specs.declared.Fixed.{Fixed}
+use Rattle.warp.specs.declared.Launch.{Launch}
+use Rattle.warp.specs.declared.Warp.{Warp}
+use Rattle.word.specs.Word.{addOf}
+
+-- ---- sizes
+
+-- the scalar registers
+abbrev pub scalarCount : ℕ
+scalarCount = 32
+
+-- room for open splits
+abbrev pub splitCount : ℕ
+splitCount = 31
+
+-- threads in a warp, and warps in the group
+abbrev pub maxThreads : ℕ
+maxThreads = lanesMax
+
+abbrev pub maxWarps : ℕ
+maxWarps = 32
+
+-- ---- zero values
+
+abbrev pub zeroSplit : Split
+zeroSplit = record { rpc = 0; full = 0; elsemask = 0; elsepc = 0; phasetwo = false }
+
+abbrev pub zeroFixed : Fixed
+zeroFixed =
+    record {
+      numt = 0;
+      numw = 0;
+      wid = 0;
+      launchmask = 0;
+      codebase = 0;
+      database = 0;
+      knl = 0;
+      wgid = 0;
+      lds = 0;
+      pds = 0;
+      gidx = 0;
+      gidy = 0;
+      gidz = 0;
+    }
+
+-- what a refused card reading returns
+abbrev pub zeroLaunch : Launch
+zeroLaunch = record { fixed = zeroFixed; entry = 0 }
+
+-- what a refused launch returns
+unfoldable pub zeroWarp : Warp
+zeroWarp =
+    record {
+      x = replicate scalarCount 0;
+      splits = replicate splitCount zeroSplit;
+      depth = 0;
+      pc = 0;
+      mask = 0;
+      rpc = 0;
+      print = 0;
+      ended = false;
+      waiting = false;
+      fixed = zeroFixed;
+    }
+
+-- ---- setters: the warp with one thing anew; every definition goes through these
+
+abbrev pub withX : List ℕ → Warp → Warp
+withX x w =
+    record { x = x; splits = w .splits; depth = w .depth; pc = w .pc; mask = w .mask; rpc = w .rpc; print = w .print; ended = w .ended; waiting = w .waiting; fixed = w .fixed }
+
+abbrev pub withPc : ℕ → Warp → Warp
+withPc p w =
+    record { x = w .x; splits = w .splits; depth = w .depth; pc = p; mask = w .mask; rpc = w .rpc; print = w .print; ended = w .ended; waiting = w .waiting; fixed = w .fixed }
+
+abbrev pub withRpc : ℕ → Warp → Warp
+withRpc r w =
+    record { x = w .x; splits = w .splits; depth = w .depth; pc = w .pc; mask = w .mask; rpc = r; print = w .print; ended = w .ended; waiting = w .waiting; fixed = w .fixed }
+
+abbrev pub withPrint : ℕ → Warp → Warp
+withPrint p w =
+    record { x = w .x; splits = w .splits; depth = w .depth; pc = w .pc; mask = w .mask; rpc = w .rpc; print = p; ended = w .ended; waiting = w .waiting; fixed = w .fixed }
+
+-- ended and waiting
+abbrev pub withStop : Bool → Bool → Warp → Warp
+withStop e b w =
+    record { x = w .x; splits = w .splits; depth = w .depth; pc = w .pc; mask = w .mask; rpc = w .rpc; print = w .print; ended = e; waiting = b; fixed = w .fixed }
+
+-- the split records, how many are open, and the active mask
+abbrev pub withSplits : List Split → ℕ → ℕ → Warp → Warp
+withSplits ss d m w =
+    record { x = w .x; splits = ss; depth = d; pc = w .pc; mask = m; rpc = w .rpc; print = w .print; ended = w .ended; waiting = w .waiting; fixed = w .fixed }
+
+-- ---- scalar registers and the PC
+
+-- the registers x with y in r; x0 stays 0
+abbrev pub setX : XReg → ℕ → List ℕ → List ℕ
+setX r y x = cond (eqb (r .0) 0) x (set x (r .0) y)
+
+abbrev pub readX : XReg → Warp → ℕ
+readX r w = getD (w .x) (r .0) 0
+
+abbrev pub writeX : XReg → ℕ → Warp → Warp
+writeX r y w = withX (setX r y (w .x)) w
+
+abbrev pub nextPc : Warp → ℕ
+nextPc w = addOf (w .pc) 4
+
+abbrev pub next : Warp → Warp
+next w = withPc (nextPc w) w
+
+-- ---- what a word answers that touches the warp alone
+
+pub record Answer : Type 0 where
+  pub code : ℕ
+  pub warp : Warp
+
+abbrev pub answer : ℕ → Warp → Answer
+answer c w = record { code = c; warp = w }
+
+-- a multiple of 4
+abbrev pub aligned : ℕ → Bool
+aligned p = eqb (p % 4) 0
+
+-- where w goes to the PC p and is v then; refusal 8 if p isn't a multiple of 4
+unfoldable pub reachOf : ℕ → Warp → Warp → Answer
+reachOf p v w = cond (aligned p) (answer 0 v) (answer 8 w)
+
+-- a jump or a taken branch
+abbrev pub jumpOf : ℕ → Warp → Answer
+jumpOf p w = reachOf p (withPc p w) w
+
+-- a jump that keeps the next PC in rd
+abbrev pub linkOf : XReg → ℕ → Warp → Answer
+linkOf rd p w = reachOf p (withPc p (writeX rd (nextPc w) w)) w

@@ -1,0 +1,81 @@
+-- Well formed, sentence by sentence.
+use Prim.Native.Nat.{ℕ, zero, suc, _-_, _^_}
+use mathlib.Core.Bool.{Bool, true, not, _&&_, _||_, cond}
+use mathlib.Core.List.{List, [], _∷_}
+use lib.Dec.{eqb, leb, ltb}
+use lib.ListN.{getD, drop}
+use Rattle.warp.specs.declared.Split.{Split}
+use Rattle.warp.specs.declared.Fixed.{Fixed}
+use Rattle.warp.specs.declared.Launch.{Launch}
+use Rattle.warp.specs.declared.Warp.{Warp}
+use Rattle.lanes.specs.Mask.{inside}
+use Rattle.warp.specs.Warp.{splitCount, maxThreads, maxWarps, zeroSplit, aligned}
+
+-- every test of a list holds
+abbrev pub every : List Bool → Bool
+every [] = true
+every (t ∷ []) = t
+every (t ∷ u ∷ ts) = t && every (u ∷ ts)
+
+abbrev pub between : ℕ → ℕ → ℕ → Bool
+between low n high = leb low n && leb n high
+
+-- NUMT, NUMW, WID, launch mask and code base in range
+unfoldable pub fixedOkOf : Fixed → Bool
+fixedOkOf f =
+    every
+    (between 1 (f .numt) maxThreads
+    ∷ between 1 (f .numw) maxWarps
+    ∷ ltb (f .wid) (f .numw)
+    ∷ not (eqb (f .launchmask) 0)
+    ∷ ltb (f .launchmask) (2 ^ f .numt)
+    ∷ aligned (f .codebase)
+    ∷ [])
+
+-- what a launch and a card are tested for: the entry PC too
+abbrev pub launchOkOf : Launch → Bool
+launchOkOf l = fixedOkOf (l .fixed) && aligned (l .entry)
+
+-- an open split's running part is full less else in phase one, else in phase two
+abbrev pub runningOf : Split → ℕ
+runningOf s = cond (s .phasetwo) (s .elsemask) (s .full - s .elsemask)
+
+-- its other full lanes are parked in it
+abbrev pub parkedOf : Split → ℕ
+parkedOf s = cond (s .phasetwo) (s .full - s .elsemask) (s .elsemask)
+
+-- an open split whose running part is m: a non-empty else mask strictly inside the full mask, and an else PC that is a multiple of 4
+unfoldable pub splitOkOf : Split → ℕ → Bool
+splitOkOf s m =
+    every
+    (not (eqb (s .elsemask) 0)
+    ∷ inside (s .elsemask) (s .full)
+    ∷ not (eqb (s .elsemask) (s .full))
+    ∷ aligned (s .elsepc)
+    ∷ eqb (runningOf s) m
+    ∷ [])
+
+-- the first d splits, from the last back, m being the last running part: each one's full mask is the running part of the one before, the first one's the launch mask
+unfoldable pub chainOf : ℕ → List Split → ℕ → ℕ → Bool
+chainOf launch ss zero m = eqb m launch
+chainOf launch ss (suc d) m = splitOkOf (getD ss d zeroSplit) m && chainOf launch ss d (getD ss d zeroSplit .full)
+
+abbrev pub isZero : Split → Bool
+isZero s = every (eqb (s .rpc) 0 ∷ eqb (s .full) 0 ∷ eqb (s .elsemask) 0 ∷ eqb (s .elsepc) 0 ∷ not (s .phasetwo) ∷ [])
+
+unfoldable pub allZero : List Split → Bool
+allZero [] = true
+allZero (s ∷ ss) = isZero s && allZero ss
+
+unfoldable pub wellFormedOf : Warp → Bool
+wellFormedOf w =
+    every
+    (fixedOkOf (w .fixed)
+    ∷ aligned (w .pc)
+    ∷ eqb (getD (w .x) 0 0) 0
+    ∷ leb (w .depth) splitCount
+    ∷ allZero (drop (w .depth) (w .splits))
+    ∷ not (w .ended && w .waiting)
+    ∷ chainOf (w .fixed .launchmask) (w .splits) (w .depth) (w .mask)
+    ∷ not ((w .ended || w .waiting) && ltb 0 (w .depth))
+    ∷ [])

@@ -1,0 +1,228 @@
+ghost use mathlib.Core.Path.{_≡_};
+ghost use Prim.Native.Nat.{_-_, _^_, _≤_};
+ghost use lib.ListN.{drop};
+ghost use Rattle.warp.specs.Warp.{splitCount, maxThreads, zeroSplit, zeroFixed, zeroLaunch, zeroWarp};
+ghost use Rattle.warp.specs.WellFormed.{runningOf, splitOkOf, isZero, chainOf, allZero, fixedOkOf, launchOkOf, wellFormedOf};
+
+// Threads in a warp, warps in the group, and room for open splits.
+const THREADS: u32 = 32;
+
+const WARPS: u32 = 32;
+
+pub const SPLITS: usize = 31;
+
+// An open split: the lanes of elsemask want elsepc; in phase two they run.
+pub struct Split {
+    pub rpc: u32,
+    pub full: u32,
+    pub elsemask: u32,
+    pub elsepc: u32,
+    pub phasetwo: bool,
+}
+
+// What a launch sets and no step changes.
+pub struct Fixed {
+    pub numt: u32,
+    pub numw: u32,
+    pub wid: u32,
+    pub launchmask: u32,
+    pub codebase: u32,
+    pub database: u32,
+    pub knl: u32,
+    pub wgid: u32,
+    pub lds: u32,
+    pub pds: u32,
+    pub gidx: u32,
+    pub gidy: u32,
+    pub gidz: u32,
+}
+
+pub struct Launch {
+    pub fixed: Fixed,
+    pub entry: u32,
+}
+
+// depth counts the open splits; the last of them is splits[depth - 1].
+pub struct Warp {
+    pub x: [u32; 32],
+    pub splits: [Split; 31],
+    pub depth: usize,
+    pub pc: u32,
+    pub mask: u32,
+    pub rpc: u32,
+    pub print: u32,
+    pub ended: bool,
+    pub waiting: bool,
+    pub fixed: Fixed,
+}
+
+pub fn zero_split() -> Split
+    ensures { λ r. ⌜ r ≡ zeroSplit ⌝ }
+{
+    Split {
+        rpc: 0,
+        full: 0,
+        elsemask: 0,
+        elsepc: 0,
+        phasetwo: false,
+    }
+}
+
+fn zero_fixed() -> Fixed
+    ensures { λ r. ⌜ r ≡ zeroFixed ⌝ }
+{
+    Fixed {
+        numt: 0,
+        numw: 0,
+        wid: 0,
+        launchmask: 0,
+        codebase: 0,
+        database: 0,
+        knl: 0,
+        wgid: 0,
+        lds: 0,
+        pds: 0,
+        gidx: 0,
+        gidy: 0,
+        gidz: 0,
+    }
+}
+
+pub fn zero_launch() -> Launch
+    ensures { λ r. ⌜ r ≡ zeroLaunch ⌝ }
+{
+    let f = zero_fixed();
+    Launch { fixed: f, entry: 0 }
+}
+
+pub fn zero_warp() -> Warp
+    ensures { λ r. ⌜ r ≡ zeroWarp ⌝ }
+{
+    let f = zero_fixed();
+    let s = zero_split();
+    Warp {
+        x: [0; 32],
+        splits: [s; 31],
+        depth: 0,
+        pc: 0,
+        mask: 0,
+        rpc: 0,
+        print: 0,
+        ended: false,
+        waiting: false,
+        fixed: f,
+    }
+}
+
+// f less e, and 0 where e is more.
+fn less(f: u32, e: u32) -> u32
+    ensures { λ r. ⌜ r ≡ f - e ⌝ }
+{
+    if e <= f { f - e } else { 0 }
+}
+
+// The lanes of an open split that run.
+fn running(s: Split) -> u32
+    ensures { λ r. ⌜ r ≡ runningOf s ⌝ }
+{
+    if s.phasetwo {
+        s.elsemask
+    } else {
+        less(s.full, s.elsemask)
+    }
+}
+
+// One open split, whose running part is to be m.
+fn split_ok(s: Split, m: u32) -> bool
+    ensures { λ r. ⌜ r ≡ splitOkOf s m ⌝ }
+{
+    let e = s.elsemask;
+    let f = s.full;
+    let r = running(s);
+    (e != 0) & (((e & f) == e) & ((e != f) & ((s.elsepc % 4 == 0) & (r == m))))
+}
+
+fn split_zero(s: Split) -> bool
+    ensures { λ r. ⌜ r ≡ isZero s ⌝ }
+{
+    (s.rpc == 0) & ((s.full == 0) & ((s.elsemask == 0) & ((s.elsepc == 0) & !s.phasetwo)))
+}
+
+// The chain of open splits, from the last one opened back to the launch.
+fn chain_ok(w: Warp) -> bool
+    requires { ⌜ w .depth ≤ splitCount ⌝ }
+    ensures { λ r. ⌜ r ≡ chainOf (w .fixed .launchmask) (w .splits) (w .depth) (w .mask) ⌝ }
+{
+    let mut m = w.mask;
+    let mut i = w.depth;
+    while 0 < i {
+        i = i - 1;
+        let s = w.splits[i];
+        if !split_ok(s, m) {
+            return false;
+        }
+        m = s.full;
+    }
+    m == w.fixed.launchmask
+}
+
+fn unused_ok(w: Warp) -> bool
+    ensures { λ r. ⌜ r ≡ allZero (drop (w .depth) (w .splits)) ⌝ }
+{
+    let mut i = w.depth;
+    while i < SPLITS {
+        let s = w.splits[i];
+        if !split_zero(s) {
+            return false;
+        }
+        i = i + 1;
+    }
+    true
+}
+
+// 2 to the power n: one more than the greatest mask of n lanes.
+fn mask_room(n: u32) -> u64
+    requires { ⌜ n ≤ maxThreads ⌝ }
+    ensures { λ r. ⌜ r ≡ 2 ^ n ⌝ }
+{
+    1u64 << n
+}
+
+pub fn fixed_ok(f: Fixed) -> bool
+    ensures { λ r. ⌜ r ≡ fixedOkOf f ⌝ }
+{
+    if THREADS < f.numt {
+        return false;
+    }
+    let room = mask_room(f.numt);
+    (1 <= f.numt)
+        & (((1 <= f.numw) & (f.numw <= WARPS))
+            & ((f.wid < f.numw)
+                & ((f.launchmask != 0) & (((f.launchmask as u64) < room) & (f.codebase % 4 == 0)))))
+}
+
+pub fn launch_ok(l: Launch) -> bool
+    ensures { λ r. ⌜ r ≡ launchOkOf l ⌝ }
+{
+    let f = l.fixed;
+    let fixed = fixed_ok(f);
+    fixed & (l.entry % 4 == 0)
+}
+
+pub fn well_formed(w: Warp) -> bool
+    ensures { λ r. ⌜ r ≡ wellFormedOf w ⌝ }
+{
+    let d = w.depth;
+    if SPLITS < d {
+        return false;
+    }
+    let f = w.fixed;
+    let fixed = fixed_ok(f);
+    let unused = unused_ok(w);
+    let chain = chain_ok(w);
+    fixed
+        & ((w.pc % 4 == 0)
+            & ((w.x[0] == 0)
+                & (unused
+                    & (!(w.ended & w.waiting) & (chain & !((w.ended | w.waiting) & (0 < d)))))))
+}

@@ -1,0 +1,260 @@
+#!/usr/bin/env python3
+"""Makes crates/decoder_cases/stdin (words) and crates/decoder_cases/stdout (what each is).
+
+Scalar and standard vector words are judged by GNU binutils' disassembly
+(riscv64-unknown-elf-objdump -M no-aliases,numeric). Ventus's own words, and
+where document 01 leaves out or changes what binutils knows, are judged by the
+small tables below, written from document 01 alone. Nothing here comes from
+the decoder under test.
+
+usage: decoder_cases.py CRATE_FOLDER
+"""
+import os, random, re, struct, subprocess, sys, tempfile
+
+OBJDUMP = 'riscv64-unknown-elf-objdump'
+AS = 'riscv64-unknown-elf-as'
+
+OPS = ['add', 'sub', 'rsub', 'sll', 'srl', 'sra', 'slt', 'sltu', 'and', 'or', 'xor', 'mul', 'mulh', 'mulhsu', 'mulhu',
+       'div', 'divu', 'rem', 'remu', 'min', 'minu', 'max', 'maxu', 'seq', 'sne', 'sle', 'sleu', 'sgt', 'sgtu', 'move']
+CONDS = ['eq', 'ne', 'lt', 'ge', 'ltu', 'geu']
+LOADS = ['b', 'h', 'w', 'bu', 'hu']
+STORES = ['b', 'h', 'w']
+CSRS = ['rw', 'rs', 'rc']
+VENTUS = (0b1011011, 0b0001011, 0b1111011, 0b0101011)
+
+
+def line(kind, op=0, a=0, b=0, c=0, imm=0):
+    return '%s %02x %02x %02x %02x %06x\n' % (kind, op, a, b, c, imm)
+
+
+REFUSED = line('--')
+
+
+def field(w, lo, n):
+    return (w >> lo) & ((1 << n) - 1)
+
+
+# ---- Ventus's own words, from document 01
+
+def ventus(w):
+    op, rd, f3 = field(w, 0, 7), field(w, 7, 5), field(w, 12, 3)
+    rs1, rs2, f7 = field(w, 15, 5), field(w, 20, 5), field(w, 25, 7)
+    imm_i = field(w, 20, 12)
+    imm_s = f7 << 5 | rd
+    if op == 0b1011011:
+        if w == 0x0000205B:
+            return line('jn')
+        if f3 == 0b011:
+            return line('rp', 0, rd, rs1, 0, imm_i)
+        if f3 in (0b000, 0b001, 0b100, 0b101, 0b110, 0b111):
+            off = field(w, 31, 1) << 12 | field(w, 7, 1) << 11 | field(w, 25, 6) << 5 | field(w, 8, 4) << 1
+            return line('vb', {0: 0, 1: 1, 4: 2, 5: 3, 6: 4, 7: 5}[f3], 0, rs1, rs2, off)
+    elif op == 0b0001011:
+        if w == 0x0000400B:
+            return line('ep')
+        if f3 == 0b100 and f7 == 0b0000010 and rs2 == 0 and rd == 0:
+            return line('ba', 0, 0, rs1)
+    elif op == 0b1111011 or (op == 0b0101011 and field(w, 31, 1) == 0):
+        k = 'v' if op == 0b1111011 else 'p'
+        loads = {0b000: 'b', 0b001: 'h', 0b010: 'w', 0b100: 'bu', 0b101: 'hu'}
+        stores = {0b111: 'b', 0b011: 'h', 0b110: 'w'}
+        if f3 in loads:
+            return line(k + 'l', LOADS.index(loads[f3]), rd, rs1, 0, imm_i)
+        return line(k + 's', STORES.index(stores[f3]), 0, rs1, rs2, imm_s)
+    return REFUSED
+
+
+# ---- what binutils says, turned into a line
+
+def num(s):
+    return int(s, 0)
+
+
+def reg(s, kind):
+    assert re.fullmatch(kind + r'\d+', s), s
+    return int(s[1:])
+
+
+def mem(s):
+    m = re.fullmatch(r'(-?\d+)\(x(\d+)\)', s)
+    return int(m.group(1)), int(m.group(2))
+
+
+OPREG = set(OPS[:19]) - {'rsub'}
+OPIMM = {'addi', 'slti', 'sltiu', 'xori', 'ori', 'andi', 'slli', 'srli', 'srai'}
+# document 01's vector ops under the manual's names, with their forms
+VECTOR = {}
+for names, forms in (('add and or xor sll srl sra', 'vv vx vi'), ('sub', 'vv vx'), ('rsub', 'vx vi'),
+                     ('minu min maxu max', 'vv vx'), ('mulhu mul mulhsu mulh divu div remu rem', 'vv vx')):
+    for n in names.split():
+        for f in forms.split():
+            VECTOR['v%s.%s' % (n, f)] = (n, f)
+for names, forms in (('seq sne sleu sle', 'vv vx vi'), ('sltu slt', 'vv vx'), ('sgtu sgt', 'vx vi')):
+    for n in names.split():
+        for f in forms.split():
+            VECTOR['vm%s.%s' % (n, f)] = (n, f)
+UNSIGNED = {'vsll.vi', 'vsrl.vi', 'vsra.vi'}
+
+
+def last(form, s):
+    """the last operand: its field, and 0 VV, 1 VX, 2 VI"""
+    if form == 'vv':
+        return reg(s, 'v'), 0
+    if form == 'vx':
+        return reg(s, 'x'), 1
+    return num(s) & 31, 2
+
+
+def standard(w, pc, text):
+    parts = text.split(None, 1)
+    name = parts[0]
+    args = [a for a in re.split(r',', parts[1].split('#')[0].split('<')[0].strip())] if len(parts) > 1 else []
+    if name in ('lui', 'auipc'):
+        return line('lu' if name == 'lui' else 'au', 0, reg(args[0], 'x'), 0, 0, num(args[1]) & 0xFFFFF)
+    if name == 'jal':
+        return line('jl', 0, reg(args[0], 'x'), 0, 0, (int(args[1], 16) - pc) & 0x1FFFFF)
+    if name == 'jalr':
+        off, base = mem(args[1]) if '(' in args[1] else (0, reg(args[1], 'x'))
+        return line('jr', 0, reg(args[0], 'x'), base, 0, off & 0xFFF)
+    if name in ('b' + c for c in CONDS):
+        return line('br', CONDS.index(name[1:]), 0, reg(args[0], 'x'), reg(args[1], 'x'), (int(args[2], 16) - pc) & 0x1FFF)
+    if name in ('l' + o for o in LOADS):
+        off, base = mem(args[1])
+        return line('ld', LOADS.index(name[1:]), reg(args[0], 'x'), base, 0, off & 0xFFF)
+    if name in ('s' + o for o in STORES):
+        off, base = mem(args[1])
+        return line('st', STORES.index(name[1:]), 0, base, reg(args[0], 'x'), off & 0xFFF)
+    if name in OPIMM:
+        o = 'sltu' if name == 'sltiu' else name[:-1]
+        if o in ('sll', 'srl', 'sra') and num(args[2]) > 31:
+            return REFUSED                                          # RV32I: binutils shows RV64's sixth bit here too
+        return line('oi', OPS.index(o), reg(args[0], 'x'), reg(args[1], 'x'), 0, num(args[2]) & 0xFFF)
+    if name in OPREG:
+        return line('or', OPS.index(name), reg(args[0], 'x'), reg(args[1], 'x'), reg(args[2], 'x'))
+    if re.fullmatch(r'csrr[wsc]i?', name):
+        k = CSRS.index(name[3:5])
+        # the CSR's number from the word: binutils prints some by name
+        src = num(args[2]) if name.endswith('i') else reg(args[2], 'x')
+        return line('ci' if name.endswith('i') else 'cr', k, reg(args[0], 'x'), src, 0, field(w, 20, 12))
+    if name in VECTOR and 'v0.t' not in args:
+        op, form = VECTOR[name]
+        src, kind = last(form, args[2])
+        return line('ve', OPS.index(op), reg(args[0], 'v'), src, reg(args[1], 'v'), kind)
+    if name in ('vmv.v.v', 'vmv.v.x', 'vmv.v.i'):
+        src, kind = last('v' + name[-1], args[1])
+        return line('vm', 0, reg(args[0], 'v'), src, 0, kind)
+    if name == 'vmv.x.s':
+        return line('xs', 0, reg(args[0], 'x'), 0, reg(args[1], 'v'))
+    if name == 'vmv.s.x':
+        return line('sx', 0, reg(args[0], 'v'), reg(args[1], 'x'))
+    if name == 'vid.v' and 'v0.t' not in args:
+        return line('id', 0, reg(args[0], 'v'))
+    return REFUSED
+
+
+def disassemble(words):
+    """binutils' text of each word, as code of an RV32 object with I, M, Zicsr, Zifencei and V"""
+    with tempfile.TemporaryDirectory() as d:
+        s = os.path.join(d, 'w.s')
+        with open(s, 'w') as f:
+            f.write('.option norelax\n.option norvc\n.text\n')
+            f.writelines('.insn 4, 0x%08x\n' % w for w in words)
+        o = os.path.join(d, 'w.o')
+        subprocess.run([AS, '-march=rv32imv_zicsr_zifencei', '-mabi=ilp32', '-o', o, s], check=True)
+        out = subprocess.run([OBJDUMP, '-d', '-z', '-M', 'no-aliases,numeric', o], check=True, capture_output=True, text=True).stdout
+    texts = {}
+    for l in out.split('\n'):
+        m = re.match(r'\s*([0-9a-f]+):\s+([0-9a-f]{8})\s+(.*)$', l)
+        if m:
+            texts[int(m.group(1), 16)] = (int(m.group(2), 16), m.group(3).strip())
+    res = []
+    for i, w in enumerate(words):
+        got, text = texts[4 * i]
+        assert got == w, (hex(w), hex(got))
+        res.append(text)
+    return res
+
+
+def fence(w):
+    # FENCE: funct3 000, every other field ignored; binutils refuses some of them
+    return line('fe', 0, field(w, 7, 5), field(w, 15, 5), 0, field(w, 20, 12)) if field(w, 12, 3) == 0 else REFUSED
+
+
+def expected(words):
+    res = [None] * len(words)
+    ask = []
+    for i, w in enumerate(words):
+        op = field(w, 0, 7)
+        if op in VENTUS:
+            res[i] = ventus(w)
+        elif op == 0b0001111:
+            res[i] = fence(w)
+        elif w & 3 != 3 or w & 0x1F == 0x1F:
+            res[i] = REFUSED                                        # the manual's shorter and longer formats
+        else:
+            ask.append(i)
+    at = 0
+    for i, text in zip(ask, disassemble([words[i] for i in ask])):
+        res[i] = standard(words[i], at, text)
+        at += 4
+    return res
+
+
+# ---- the words
+
+def words(rng):
+    def r(n):
+        return rng.getrandbits(n)
+    out = [0x0000205B, 0x0000400B, 0x0102B05B, 0x0020885B, 0, 0xFFFFFFFF, 0x0400400B, 0x0000000B, 0x00000073, 0x00100073]
+    known = [0b0110111, 0b0010111, 0b1101111, 0b1100111, 0b1100011, 0b0000011, 0b0100011, 0b0010011, 0b0110011, 0b0001111,
+             0b1110011, 0b1010111, 0b1011011, 0b0001011, 0b1111011, 0b0101011]
+    for op in range(128):                                           # every opcode, the rest at random
+        out += [r(25) << 7 | op for _ in range(12)]
+    for op in known:
+        out += [r(25) << 7 | op for _ in range(220)]
+    for _ in range(1600):                                           # OP and OP-IMM's shifts, near funct7's codes
+        f7 = rng.choice([0, 0, 1, 1, 32, 32, 2, 33, 48, 16, 64, r(7)])
+        out.append(f7 << 25 | r(18) << 7 | rng.choice([0b0110011, 0b0010011]))
+    for f6 in range(64):                                            # the vector table: each funct6, funct3 and vm
+        for f3 in range(8):
+            for vm in (1, 1, 1, 1, 0):
+                out.append(f6 << 26 | vm << 25 | r(5) << 20 | r(5) << 15 | f3 << 12 | r(5) << 7 | 0b1010111)
+    near = [0, 1, 2, 3, 4, 5, 6, 7, 9, 10, 11, 16, 20, 23, 24, 25, 26, 27, 28, 29, 30, 31, 32, 33, 34, 35, 36, 37, 38, 39, 40, 41]
+    for _ in range(4000):                                           # more of the table's funct6, unmasked
+        out.append(rng.choice(near) << 26 | 1 << 25 | r(10) << 15 | rng.choice([0, 2, 3, 4, 6]) << 12 | r(5) << 7 | 0b1010111)
+    for f6, f3s in ((0b010111, (0, 3, 4)), (0b010000, (2, 6)), (0b010100, (2,))):   # moves and vid: fields fixed and not
+        for _ in range(400):
+            vs2 = rng.choice([0, 0, 0, r(5)])
+            vs1 = rng.choice([0, 0b10001, 0b10000, r(5)])
+            out.append(f6 << 26 | rng.choice([1, 1, 1, 0]) << 25 | vs2 << 20 | vs1 << 15 | rng.choice(f3s) << 12 | r(5) << 7 | 0b1010111)
+    for w in (0x0000205B, 0x0000400B, 0x0400400B):                  # JOIN, ENDPRG, BARRIER, and each with a bit or two changed
+        for i in range(7, 32):
+            out.append(w ^ 1 << i)
+            for j in range(i + 1, 32):
+                out.append(w ^ 1 << i ^ 1 << j)
+    for _ in range(400):
+        out.append(rng.choice([0, 2, 4, r(7)]) << 25 | rng.choice([0, r(5)]) << 20 | r(5) << 15 | rng.choice([4, 4, 4, r(3)]) << 12
+                   | rng.choice([0, 0, r(5)]) << 7 | 0b0001011)
+    for op in (0b1011011, 0b1111011, 0b0101011, 0b1100011, 0b0000011, 0b0100011, 0b1110011, 0b0001111, 0b1100111):
+        for f3 in range(8):
+            out += [r(17) << 15 | f3 << 12 | r(5) << 7 | op for _ in range(60)]
+    while len(out) < 24000:
+        out.append(r(25) << 7 | rng.choice(known))
+    return out
+
+
+def main():
+    crate = sys.argv[1]
+    ws = words(random.Random(20250321))
+    lines = expected(ws)
+    with open(os.path.join(crate, 'stdin'), 'wb') as f:
+        f.write(b''.join(struct.pack('<I', w) for w in ws))
+    with open(os.path.join(crate, 'stdout'), 'w') as f:
+        f.writelines(lines)
+    kinds = {}
+    for l in lines:
+        kinds[l[:2]] = kinds.get(l[:2], 0) + 1
+    print(len(ws), 'words', sorted(kinds.items()))
+
+
+main()
