@@ -1,6 +1,6 @@
 -- What every instruction keeps: the warp well formed, the sizes of the lent runs, and, where it is refused, everything.
-use Prim.Native.Nat.{ℕ, zero, suc, _+_, _-_, _%_, _≤_}
-use mathlib.Core.Path.{_≡_, refl, sym, ap, _∙_, subst}
+use Prim.Native.Nat.{ℕ, _-_, _%_, _≤_}
+use mathlib.Core.Path.{_≡_, refl, ap, _∙_}
 use mathlib.Core.Bool.{Bool, true, false, not, _&&_, _||_, cond}
 use mathlib.Core.List.{List}
 use native.Mathlib.Omega.{arith}
@@ -18,18 +18,18 @@ use Rattle.isa.specs.declared.VReg.{VReg}
 use Rattle.isa.specs.declared.CsrOp.{CsrOp}
 use Rattle.word.specs.Word.{holdsOf}
 use Rattle.lanes.specs.Mask.{bit}
-use Rattle.lanes.specs.Lanes.{laneOf, writeLanes, maskOf, wantsOf, uniformOf, valueOf}
+use Rattle.lanes.specs.Lanes.{laneOf, uniformOf}
 use Rattle.lanes.specs.Laws.{write-length, each-keeps}
 use Rattle.lanes.specs.MaskLaws.{part-in}
-use Rattle.memory.specs.Memory.{insideOf, sizeOf, widthOf, loadOf}
-use Rattle.memory.specs.LaneAccess.{allInside, storeLanes}
+use Rattle.memory.specs.Memory.{insideOf, sizeOf, widthOf}
+use Rattle.memory.specs.LaneAccess.{allInside}
 use Rattle.memory.specs.Bytes.{leBytes}
 use Rattle.warp.specs.declared.Warp.{Warp}
-use Rattle.warp.specs.Warp.{aligned, withPc, withPrint, withRpc, withStop, readX, writeX, next, nextPc, Answer, answer, reachOf, jumpOf, linkOf}
-use Rattle.warp.specs.Splits.{openOf, vbranchOf, joinOf, setRpcOf}
+use Rattle.warp.specs.Warp.{aligned, readX, writeX, next, nextPc, Answer, answer, reachOf, jumpOf, linkOf}
+use Rattle.warp.specs.Splits.{vbranchOf, setRpcOf}
 use Rattle.warp.specs.SplitLaws.{by-cond}
 use Rattle.warp.specs.Csr.{isCsr, isPrint, isRpc, writesOf, csrAt, csrOf}
-use Rattle.warp.specs.Moves.{Cuts, Leaves, Moves, opens, joins, leaves}
+use Rattle.warp.specs.Moves.{Cuts, Moves, opens, joins, leaves}
 use Rattle.warp.specs.Formed.{Formed, mask-small, formed-pc, formed-next, formed-x, formed-stop, formed-print, formed-rpc, formed-setrpc, formed-open, formed-join}
 use Rattle.definition.specs.Outcome.{Outcome, outcome, Effect, goes, writes, saves, effect}
 use Rattle.definition.specs.Exec.{effectOf, execOf, puts, stores, laneLoads, laneStores, stops}

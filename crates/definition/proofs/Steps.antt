@@ -1,6 +1,6 @@
 -- What every step keeps, whatever is handed in.
 use Prim.Native.Nat.{ℕ, _≤_}
-use mathlib.Core.Path.{_≡_, refl, sym, ap, _∙_, subst}
+use mathlib.Core.Path.{_≡_, refl, sym, subst}
 use mathlib.Core.Bool.{Bool, true, false}
 use mathlib.Core.List.{List}
 use native.Mathlib.Omega.{arith}
@@ -14,7 +14,7 @@ use Rattle.warp.specs.Moves.{Moves}
 use Rattle.warp.specs.Formed.{Formed, formed}
 use Rattle.definition.specs.Outcome.{Outcome, outcome}
 use Rattle.definition.specs.Step.{runsOkOf, placeOf, onKernel, stepOf}
-use Rattle.definition.proofs.Sound.{Sound, sound-exec}
+use Rattle.definition.proofs.Sound.{sound-exec}
 use Rattle.definition.proofs.Tests.{step-runs, step-malformed, step-ended, step-waits, step-off, step-exec}
 
 -- the outcome o of a step on the warp w, the file v and the data d

@@ -1,6 +1,5 @@
 -- What a call leaves, and the three kinds of effect that an instruction has.
 use Prim.Native.Nat.{ℕ}
-use mathlib.Core.Bool.{cond}
 use mathlib.Core.List.{List}
 use Rattle.isa.specs.declared.VReg.{VReg}
 use Rattle.lanes.specs.Mask.{bit}

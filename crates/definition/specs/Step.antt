@@ -1,6 +1,6 @@
 -- One step: the numbered tests in their order, and then the instruction.
 use Prim.Native.Nat.{ℕ, _+_, _-_, _*_, _/_, _^_}
-use mathlib.Core.Bool.{Bool, true, false, not, _&&_, cond}
+use mathlib.Core.Bool.{Bool, not, _&&_, cond}
 use mathlib.Core.List.{List, [], _∷_, _++_}
 use lib.Dec.{eqb, leb, ltb}
 use lib.ListN.{length, getD}

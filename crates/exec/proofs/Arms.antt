@@ -1,11 +1,9 @@
 -- From what the callees do with the lent words to what the definition says of the warp that they stand for.
 use Prim.Native.Nat.{ℕ, _-_, _/_, _<_, _≤_}
 use mathlib.Core.Path.{_≡_, refl, sym, ap, _∙_, subst}
-use mathlib.Core.Bool.{Bool, true, false, cond, true≢false}
+use mathlib.Core.Bool.{Bool, true, false}
 use mathlib.Core.List.{List}
-use lib.Dec.{eqb}
 use lib.ListN.{length, getD, set, length-set}
-use lib.Seq.{sets}
 use borrow.Author.Tests.{eq-eqb, ne-eqb, le-leb, lt-leb, lt-ltb, le-ltb}
 use Rattle.isa.specs.Fits.{Fits}
 use Rattle.isa.specs.Decode.{decodeOf}
@@ -15,22 +13,20 @@ use Rattle.isa.specs.declared.VReg.{VReg}
 use Rattle.isa.specs.declared.LoadOp.{LoadOp}
 use Rattle.isa.specs.declared.StoreOp.{StoreOp}
 use Rattle.lanes.specs.Mask.{bit}
-use Rattle.lanes.specs.Lanes.{laneOf, writeLanes, uniformOf, valueOf}
+use Rattle.lanes.specs.Lanes.{laneOf, writeLanes}
 use Rattle.lanes.specs.Rows.{Row, at}
-use Rattle.memory.specs.Memory.{sizeOf, widthOf, insideOf, loadOf, orKept, orOutside, scalarLoadOf, scalarStoreOf}
-use Rattle.memory.specs.Bytes.{leBytes}
-use Rattle.memory.specs.LaneAccess.{allInside, storeLanes, loadLanesOf, storeLanesOf}
+use Rattle.memory.specs.Memory.{sizeOf, widthOf, insideOf, loadOf, orOutside, scalarLoadOf, scalarStoreOf}
+use Rattle.memory.specs.LaneAccess.{allInside, loadLanesOf, storeLanesOf}
 use Rattle.memory.specs.Laws.{inside-only, load-only, store-only}
-use Rattle.memory.specs.declared.Loaded.{Loaded}
 use Rattle.memory.specs.declared.Loaded.the-variants.{Found, Outside}
 use Rattle.warp.specs.declared.Warp.{Warp}
 use Rattle.warp.specs.Formed.{FixedOk, fixed-ok, mask-small, well}
 use Rattle.warp.specs.WellFormed.{wellFormedOf}
-use Rattle.warp.specs.Warp.{Answer, answer, setX, writeX, withPc, withStop, next, readX, jumpOf}
+use Rattle.warp.specs.Warp.{Answer, answer, setX, withStop, next}
 use Rattle.hot.specs.Hot.{hotLength, flatLength, pcIn, maskIn, depthIn, endedIn, waitingIn, fixedIn, nextIn, warpOf, Goes}
 use Rattle.hot.specs.HotLaws.{eight, next-warp, x-warp, stays}
 use Rattle.definition.specs.Outcome.{Outcome, outcome, Effect, goes, writes, saves, effect}
-use Rattle.definition.specs.Exec.{puts, stops, loads, stores, effectOf, execOf, laneLoads, laneStores}
+use Rattle.definition.specs.Exec.{puts, stops, loads, stores, effectOf, execOf}
 use Rattle.definition.specs.Step.{runsOkOf, stepOf}
 use Rattle.definition.proofs.Sizes.{sizes}
 use Rattle.definition.proofs.Tests.{step-ended, step-waits, step-off, step-exec}

@@ -1,7 +1,7 @@
 -- From steps on the lent words to a run of the warp.
-use Prim.Native.Nat.{ℕ, zero, suc, _+_, _-_, _≤_, _<_}
+use Prim.Native.Nat.{ℕ, suc, _+_, _-_, _≤_, _<_}
 use mathlib.Core.Path.{_≡_, refl, sym, ap, _∙_, subst}
-use mathlib.Core.Bool.{Bool, true, false, not, cond}
+use mathlib.Core.Bool.{Bool, true, false, cond}
 use mathlib.Core.List.{List}
 use native.Mathlib.Omega.{arith}
 use native.Mathlib.Nat.{sub-zero}
@@ -14,7 +14,7 @@ use Rattle.warp.specs.declared.Warp.{Warp}
 use Rattle.warp.specs.Warp.{splitCount, zeroWarp, answer, withStop}
 use Rattle.warp.specs.WellFormed.{launchOkOf, wellFormedOf}
 use Rattle.warp.specs.Formed.{Formed, formed}
-use Rattle.hot.specs.Hot.{warpOf, fixedIn, hotOf, fixedWords, Flat, Lent}
+use Rattle.hot.specs.Hot.{warpOf, hotOf, fixedWords, Flat}
 use Rattle.hot.proofs.FlatSplits.{splits-length}
 use Rattle.hot.specs.HotLaws.{apart, lent}
 use Rattle.definition.specs.Outcome.{Outcome, outcome}

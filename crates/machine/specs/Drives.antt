@@ -2,7 +2,6 @@
 use Prim.Native.Nat.{ℕ, _≤_}
 use mathlib.Core.Path.{_≡_}
 use mathlib.Core.List.{List}
-use lib.ListN.{length}
 use Rattle.hot.specs.Hot.{warpOf}
 use Rattle.definition.specs.Outcome.{outcome}
 use Rattle.definition.specs.Calls.{ran, stepsOf}

@@ -237,11 +237,11 @@ pub fn release(w: Warp) -> Left
             warp: w,
         };
     }
-    let mut u = w;
-    u.ended = false;
-    u.waiting = false;
+    let mut freed = w;
+    freed.ended = false;
+    freed.waiting = false;
     Left {
         answer: Answer::Done,
-        warp: u,
+        warp: freed,
     }
 }

@@ -1,5 +1,5 @@
 -- The CSRs from 0x800 on.
-use Prim.Native.Nat.{ℕ, _-_, _*_}
+use Prim.Native.Nat.{ℕ, _-_}
 use mathlib.Core.Bool.{Bool, true, not, _&&_, _||_, cond}
 use mathlib.Core.List.{List, [], _∷_}
 use lib.Dec.{eqb}
@@ -8,13 +8,14 @@ use lib.Bits.{bitAnd, bitOr}
 use Rattle.isa.specs.declared.CsrOp.{CsrOp}
 use Rattle.isa.specs.declared.CsrOp.the-variants.{Rw, Rs, Rc}
 use Rattle.isa.specs.declared.XReg.{XReg}
+use Rattle.memory.specs.Address.{tidOf as tid}
 use Rattle.warp.specs.declared.Fixed.{Fixed}
 use Rattle.warp.specs.declared.Warp.{Warp}
 use Rattle.warp.specs.Warp.{withRpc, withPrint, writeX, next, Answer, answer}
 use Rattle.warp.specs.WellFormed.{between}
 
 abbrev pub tidOf : Fixed → ℕ
-tidOf f = f .wid * f .numt
+tidOf f = tid (f .wid) (f .numt)
 
 -- TID, NUMW, NUMT, KNL, WGID, WID, LDS, PDS, GIDX, GIDY, GIDZ, PRINT, RPC
 abbrev pub csrs : Warp → List ℕ

@@ -8,19 +8,17 @@ use native.Mathlib.Nat.{lt-of-lt-of-le, lt-of-le-of-lt, le-of-lt, mul-le-mul}
 use lib.Dec.{eqb, leb, ltb}
 use lib.ListN.{getD, set, drop, length, length-set}
 use lib.Seq.{getD-set-same, getD-set-other, drop-set-lt}
-use lib.Bits.{bitAnd}
 use lib.Pow.{pow-mono}
 use borrow.Author.Tests.{eq-eqb, eqb-true, eqb-false, leb-true, le-leb, ltb-true, not-true}
-use Rattle.isa.specs.declared.CsrOp.{CsrOp}
 use Rattle.isa.specs.declared.XReg.{XReg}
 use Rattle.warp.specs.declared.Split.{Split}
 use Rattle.warp.specs.declared.Fixed.{Fixed}
 use Rattle.warp.specs.declared.Warp.{Warp}
-use Rattle.warp.specs.Warp.{splitCount, maxThreads, maxWarps, zeroSplit, aligned, withPc, withRpc, withPrint, withStop, setX, writeX, nextPc, next, Answer, reachOf, jumpOf, linkOf}
+use Rattle.warp.specs.Warp.{splitCount, maxThreads, maxWarps, zeroSplit, aligned, withPc, withRpc, withPrint, withStop, setX, writeX, nextPc, next}
 use Rattle.warp.specs.WellFormed.{between, fixedOkOf, chainOf, isZero, allZero, wellFormedOf}
-use Rattle.warp.specs.Splits.{openOf, vbranchOf, lastSplit, turned, turnOf, closeOf, joinOf, setRpcOf}
+use Rattle.warp.specs.Splits.{openOf, lastSplit, turned, turnOf, closeOf, joinOf, setRpcOf}
 use Rattle.warp.specs.SplitLaws.{by-cond}
-use Rattle.warp.specs.Csr.{tidOf, isCsr, isPrint, isRpc, writesOf, csrOf}
+use Rattle.warp.specs.Csr.{tidOf}
 use Rattle.warp.specs.Chain.{both, every-at, zero-step, chain-le}
 use Rattle.warp.specs.Moves.{Cuts, Held, held, opens, joins, fits, last-good}
 
@@ -111,9 +109,6 @@ put-x0 r y x h =
     by-cond (λ (l : List ℕ). getD l 0 0 ≡ 0) (eqb (r .0) 0) _ _ (λ e. h)
     (λ e. let n : r .0 ≡ 0 → ⊥ = eqb-false (r .0) 0 e in getD-set-other {A = ℕ} x (r .0) 0 y 0 (omega arith) ∙ h)
 
-abbrev FormedAnswer : Answer → Type 0
-FormedAnswer a = Formed (a .warp)
-
 module _ (w : Warp) (f : Formed w) where
   pub formed-pc : (p : ℕ) → p % 4 ≡ 0 → Formed (withPc p w)
   formed-pc p a = record { long = f .long; fixed = f .fixed; pc = a; x0 = f .x0; deep = f .deep; unused = f .unused; one = f .one; chain = f .chain; quiet = f .quiet }
@@ -141,26 +136,9 @@ module _ (w : Warp) (f : Formed w) where
       none-open false true = rw z
       none-open false false = refl
 
-  pub formed-reach : (p : ℕ) (v : Warp) → (p % 4 ≡ 0 → Formed v) → FormedAnswer (reachOf p v w)
-  unfolding reachOf
-  formed-reach p v g = by-cond FormedAnswer (aligned p) _ _ (λ a. g (eqb-true _ _ a)) (λ a. f)
-
-pub formed-jump : (p : ℕ) (w : Warp) → Formed w → FormedAnswer (jumpOf p w)
-formed-jump p w f = formed-reach w f p (withPc p w) (λ a. formed-pc w f p a)
-
-pub formed-link : (rd : XReg) (p : ℕ) (w : Warp) → Formed w → FormedAnswer (linkOf rd p w)
-formed-link rd p w f = formed-reach w f p (withPc p (writeX rd (nextPc w) w)) (λ a. formed-pc (writeX rd (nextPc w) w) (formed-x w f rd (nextPc w)) p a)
-
 pub formed-setrpc : (rd rs1 : XReg) (i : ℕ) (w : Warp) → Formed w → Formed (setRpcOf rd rs1 i w)
 unfolding setRpcOf
 formed-setrpc rd rs1 i w f = formed-next _ (formed-x _ (formed-rpc w f _) rd _)
-
-pub formed-csr : (op : CsrOp) (n : ℕ) (rd : XReg) (rs1 y : ℕ) (w : Warp) → Formed w → FormedAnswer (csrOf op n rd rs1 y w)
-unfolding csrOf
-formed-csr op n rd rs1 y w f =
-    by-cond FormedAnswer (isCsr n && (not (writesOf op rs1) || (isPrint n || isRpc n))) _ _
-    (λ t. formed-next _ (formed-x _ (by-cond Formed (writesOf op rs1) _ _ (λ e. by-cond Formed (isPrint n) _ _ (λ p. formed-print w f _) (λ p. formed-rpc w f _)) (λ e. f)) rd _))
-    (λ t. f)
 
 -- ---- what moves the splits
 
@@ -195,14 +173,6 @@ module _ (w : Warp) (f : Formed w) (en : w .ended ≡ false) (wa : w .waiting �
         chain = g .chain;
         quiet = still-quiet _ _ _ en wa;
       }
-
-  pub formed-vbranch : (e p : ℕ) → bitAnd e (w .mask) ≡ e → FormedAnswer (vbranchOf e p w)
-  unfolding vbranchOf
-  formed-vbranch e p i =
-      by-cond FormedAnswer (eqb e 0) _ _ (λ z. formed-next w f)
-      (λ z. formed-reach w f p _
-      (λ a. by-cond Formed (eqb e (w .mask)) _ _ (λ m. formed-pc w f p a)
-      (λ m. formed-open e p (record { within = i; some = eqb-false _ _ z; strict = eqb-false _ _ m; aligned = a }))))
 
   formed-turn : (w .depth ≡ 0 → ⊥) → Held (turnOf (lastSplit w) w) → Formed (turnOf (lastSplit w) w)
   formed-turn d h =

@@ -6,6 +6,5 @@ pub mod SplitLaws
 pub mod CsrLaws
 pub mod Chain
 pub mod Moves
-pub mod Words
 pub mod Formed
 pub mod Cases

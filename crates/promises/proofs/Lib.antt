@@ -1,0 +1,15 @@
+pub mod Word
+pub mod Step
+pub mod Reached
+pub mod Splits
+pub mod Bound
+pub mod LaneShapes
+pub mod LaneTests
+pub mod Lanes
+pub mod Unseen
+pub mod LaneCases
+pub mod Runs
+pub mod Refusals
+pub mod Determined
+pub mod Calls
+pub mod Examples

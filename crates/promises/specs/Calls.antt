@@ -1,0 +1,48 @@
+-- For each public call of the machine: two results that its contract allows are equal. (The card's two calls: card/specs/CardLaws.antt, read-determined and write-determined.)
+use Prim.Native.Nat.{ℕ}
+use mathlib.Core.List.{List}
+use Rattle.warp.specs.declared.Warp.{Warp}
+use Rattle.warp.specs.declared.Launch.{Launch}
+use Rattle.warp.specs.Warp.{Answer, answer}
+use Rattle.definition.specs.Outcome.{Outcome, outcome}
+use Rattle.definition.specs.Step.{stepOf}
+use Rattle.definition.specs.Calls.{Ran, ran, launchOf, runOf, releaseOf}
+use Rattle.machine.specs.Answer.{numberOf}
+use Rattle.machine.specs.declared.Left.{Left}
+use Rattle.machine.specs.declared.Ran as code
+use Rattle.promises.specs.Determined.{DeterminedWhole}
+
+-- a launch's or a step's result, with the lent runs afterwards
+pub record Leaves : Type 0 where
+  pub result : Left
+  pub vector : List ℕ
+  pub bytes : List ℕ
+
+pub record RunLeaves : Type 0 where
+  pub result : code.Ran
+  pub vector : List ℕ
+  pub bytes : List ℕ
+
+-- what the contracts see of them
+abbrev pub seen : Leaves → Outcome
+seen r = outcome (numberOf (r .result .answer)) (r .result .warp) (r .vector) (r .bytes)
+
+abbrev pub runSeen : RunLeaves → Ran
+runSeen r = ran (r .result .steps) (outcome (numberOf (r .result .answer)) (r .result .warp) (r .vector) (r .bytes))
+
+abbrev pub freed : Left → Answer
+freed r = answer (numberOf (r .answer)) (r .warp)
+
+-- ---- promises
+
+abbrev pub LaunchDetermined : Type 0
+LaunchDetermined = (k v d : List ℕ) → DeterminedWhole seen (λ (l : Launch). launchOf k l v d)
+
+abbrev pub StepDetermined : Type 0
+StepDetermined = (k v d : List ℕ) → DeterminedWhole seen (λ (w : Warp). stepOf k w v d)
+
+abbrev pub RunDetermined : Type 0
+RunDetermined = (k v d : List ℕ) (n : ℕ) → DeterminedWhole runSeen (λ (w : Warp). runOf k n w v d)
+
+abbrev pub ReleaseDetermined : Type 0
+ReleaseDetermined = DeterminedWhole freed releaseOf

@@ -1,0 +1,9 @@
+pub mod Reached
+pub mod Splits
+pub mod Bound
+pub mod Lanes
+pub mod Runs
+pub mod Refusals
+pub mod Determined
+pub mod Calls
+pub mod Trace
