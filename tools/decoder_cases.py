@@ -3,8 +3,8 @@
 
 Scalar and standard vector words are judged by GNU binutils' disassembly
 (riscv64-unknown-elf-objdump -M no-aliases,numeric). Ventus's own words, and
-where document 01 leaves out or changes what binutils knows, are judged by the
-small tables below, written from document 01 alone. Nothing here comes from
+where the rules (docs/DEFINITION.md) leave out or change what binutils knows, are judged by the
+small tables below, written from the rules alone. Nothing here comes from
 the decoder under test.
 
 usage: decoder_cases.py CRATE_FOLDER
@@ -34,7 +34,7 @@ def field(w, lo, n):
     return (w >> lo) & ((1 << n) - 1)
 
 
-# ---- Ventus's own words, from document 01
+# ---- Ventus's own words, from the rules
 
 def ventus(w):
     op, rd, f3 = field(w, 0, 7), field(w, 7, 5), field(w, 12, 3)
@@ -82,7 +82,7 @@ def mem(s):
 
 OPREG = set(OPS[:19]) - {'rsub'}
 OPIMM = {'addi', 'slti', 'sltiu', 'xori', 'ori', 'andi', 'slli', 'srli', 'srai'}
-# document 01's vector ops under the manual's names, with their forms
+# the rules' vector ops under the manual's names, with their forms
 VECTOR = {}
 for names, forms in (('add and or xor sll srl sra', 'vv vx vi'), ('sub', 'vv vx'), ('rsub', 'vx vi'),
                      ('minu min maxu max', 'vv vx'), ('mulhu mul mulhsu mulh divu div remu rem', 'vv vx')):

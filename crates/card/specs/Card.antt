@@ -75,7 +75,7 @@ cardOf l = bytesOf (valuesOf l)
 
 -- ---- answers
 
--- document 01's number for each answer
+-- the number of each answer
 abbrev pub numberOf : Answer → ℕ
 numberOf Done = 0
 numberOf OutOfRange = 1

@@ -67,7 +67,7 @@ module _ (l : Launch) (t : List ℕ) where
 
 -- ---- determinacy
 
--- document 01's numbers tell the answers apart
+-- the numbers tell the answers apart
 pub number-one : (a b : Answer) → numberOf a ≡ numberOf b → a ≡ b
 number-one Done Done e = refl
 number-one Done OutOfRange e = absurd (omega arith)

@@ -1,4 +1,4 @@
--- Document 01's example launch, 4 lanes at base 80000000, as a card; and cards that are refused.
+-- An example launch, 4 lanes at base 80000000, as a card; and cards that are refused.
 use Prim.Native.Nat.{ℕ}
 use mathlib.Core.Path.{_≡_, refl}
 use mathlib.Core.List.{List, [], _∷_, _++_}

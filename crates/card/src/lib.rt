@@ -16,7 +16,7 @@ const CARD_LENGTH: u32 = 48;
 
 const CARD_VERSION: u32 = 1;
 
-// Document 01's 0, 1 and 13.
+// Numbers 0, 1 and 13.
 pub enum Answer {
     Done,
     OutOfRange,

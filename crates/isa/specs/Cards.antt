@@ -1,4 +1,4 @@
--- P1 and P2 of document 01: one statement, which antt computes.
+-- The trace cards P1 and P2: one statement, which antt computes.
 use mathlib.Core.Path.{_≡_, refl}
 use mathlib.Core.List.{[], _∷_, map}
 use Rattle.isa.specs.declared.Instr.the-variants as I

@@ -1,4 +1,4 @@
--- The vector words: document 01's table, row by row, with its forms column.
+-- The vector words: the table of the rules, row by row, with its forms column.
 use mathlib.Core.List.{List, [], _∷_, _++_}
 use mathlib.Core.Bool.{Bool, true, false, cond}
 use Rattle.word.specs.declared.Op.{Op}

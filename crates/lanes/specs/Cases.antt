@@ -1,4 +1,4 @@
--- Document 01's trace cards on lanes, computed.
+-- The trace cards on lanes, computed.
 use mathlib.Core.Path.{_≡_, refl}
 use mathlib.Core.Bool.{true, false}
 use mathlib.Core.List.{List}

@@ -1,0 +1,67 @@
+use mathlib.Core.Path.{_≡_, refl}
+use Prim.Native.Nat.{_≤_, _-_, _/_}
+use native.Mathlib.Omega.{arith}
+use lib.ListN.{length, take, length-set}
+use Rattle.printout.specs.Printout.{firstWords, wordsOf}
+use Rattle.printout.proofs.Laws.{words-more}
+use Rattle.printout.proofs.put_words.Statement.{statement}
+use Rattle.printout.proofs.put_words.Tie as tie
+
+abbrev Inv-loop : tie.InvT-loop
+Inv-loop kernel words₀ n i₀ words i = (i ≤ n) × (length words ≡ length words₀) × (take i words ≡ firstWords i kernel)
+
+abbrev μ-loop : tie.MeasureT-loop
+μ-loop kernel words₀ n i₀ words i = n - i
+
+loop-holds : tie.Need-loop-holds Inv-loop μ-loop
+loop-holds c = (omega arith, refl, refl)
+
+mul-word-at : tie.Need-mul-word-at Inv-loop μ-loop
+mul-word-at c = omega arith
+
+word-at-requires : tie.Need-word-at-requires Inv-loop μ-loop
+word-at-requires c κs = omega arith
+
+mul-words : tie.Need-mul-words Inv-loop μ-loop
+mul-words c = omega arith
+
+slice-write-words : tie.Need-slice-write-words Inv-loop μ-loop
+slice-write-words c = omega arith
+
+add-i : tie.Need-add-i Inv-loop μ-loop
+add-i c = omega arith
+
+loop-less : tie.Need-loop-less Inv-loop μ-loop
+loop-less c = omega arith
+
+loop-again : tie.Need-loop-again Inv-loop μ-loop
+loop-again c =
+    let i = c .before .before .loop in
+    (omega arith, simp length-set (i .inv .1), rw (c .word-at .ensures) (words-more (c .before .before .before .before .before .args .kernel .now) (i .words) (i .i) (omega arith) (i .inv .2)))
+
+same-length : tie.Need-same-length Inv-loop μ-loop
+same-length c = c .before .loop .inv .1
+
+returns : tie.Need-returns Inv-loop μ-loop
+unfolding wordsOf
+returns c =
+    let i = c .before .loop in
+    let e : i .i ≡ length (c .before .before .before .before .args .kernel .now) / 4 = omega arith in
+    rw (← e) (i .inv .2)
+
+pub put-words-spec : {M : Type 1} → statement M
+put-words-spec =
+    tie.close
+    (tie.spec
+    Inv-loop
+    μ-loop
+    loop-holds
+    mul-word-at
+    word-at-requires
+    mul-words
+    slice-write-words
+    add-i
+    loop-less
+    loop-again
+    same-length
+    returns)

@@ -1,0 +1,4 @@
+pub mod Text
+pub mod Puts
+pub mod Printout
+pub mod Cases

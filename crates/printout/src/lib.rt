@@ -1,0 +1,242 @@
+// The bench program's work: three files' bytes in, the printout's bytes out.
+use machine::Answer;
+use machine::Refusal;
+use warp::Launch;
+ghost use mathlib.Core.Path.{_≡_};
+ghost use Prim.Native.Nat.{_+_, _/_, _<_, _≤_};
+ghost use mathlib.Core.List.{[], _∷_};
+ghost use lib.ListN.{length, take};
+ghost use Rattle.io.specs.Counts.{Counts};
+ghost use Rattle.memory.specs.Bytes.{leAt};
+ghost use Rattle.card.specs.Card.{numberOf as Card·numberOf};
+ghost use Rattle.definition.specs.Step.{kernelLimit};
+ghost use Rattle.machine.specs.Answer.{refusalOf, numberOf};
+ghost use Rattle.printout.specs.Text.{digitOf, hexDigits, hexOf, decimalOf, lineOf};
+ghost use Rattle.printout.specs.Puts.{Puts, roomNeeded};
+ghost use Rattle.printout.specs.Printout.{codeLine, fiveLines, wordsOf, kernelLines, printoutOf};
+
+// ---- text, put into `out` from index `at` on; each answers the index after it
+
+fn digit(x: u64) -> u8
+    requires { ⌜ x < 16 ⌝ }
+    ensures { λ r. ⌜ r ≡ digitOf x ⌝ }
+{
+    if x < 10 { 48 + x as u8 } else { 87 + x as u8 }
+}
+
+fn put_byte(out: &mut [u8], at: usize, b: u8) -> usize
+    requires { ⌜ at < length (now out) ⌝ }
+    ensures { λ r. ⌜ Puts (now (out .entry)) at (b ∷ []) (now (out .exit)) r ⌝ }
+{
+    out[at] = b;
+    at + 1
+}
+
+fn put_hex_digits(out: &mut [u8], at: usize, k: usize, n: u64) -> usize
+    requires { ⌜ at + k ≤ length (now out) ⌝ }
+    ensures { λ r. ⌜ Puts (now (out .entry)) at (hexDigits k n) (now (out .exit)) r ⌝ }
+{
+    if k == 0 {
+        return at;
+    }
+    let last = put_hex_digits(out, at, k - 1, n / 16);
+    put_byte(out, last, digit(n % 16))
+}
+
+fn put_decimal(out: &mut [u8], at: usize, n: u64) -> usize
+    requires { ⌜ at + length (decimalOf n) ≤ length (now out) ⌝ }
+    ensures { λ r. ⌜ Puts (now (out .entry)) at (decimalOf n) (now (out .exit)) r ⌝ }
+{
+    if n < 10 {
+        return put_byte(out, at, digit(n));
+    }
+    let last = put_decimal(out, at, n / 10);
+    put_byte(out, last, digit(n % 10))
+}
+
+fn put_text(out: &mut [u8], at: usize, text: &[u8]) -> usize
+    requires { ⌜ at + length (now text) ≤ length (now out) ⌝ }
+    ensures { λ r. ⌜ Puts (now (out .entry)) at (now (text .entry)) (now (out .exit)) r ⌝ }
+{
+    let mut i = 0;
+    while i < text.len() {
+        out[at + i] = text[i];
+        i += 1;
+    }
+    at + i
+}
+
+fn put_decimal_line(out: &mut [u8], at: usize, name: &[u8], n: u64) -> usize
+    requires { ⌜ at + length (now name) + 21 ≤ length (now out) ⌝ }
+    ensures { λ r. ⌜ Puts (now (out .entry)) at (lineOf (now (name .entry)) (decimalOf n)) (now (out .exit)) r × (r ≤ at + length (now (name .entry)) + 21) ⌝ }
+{
+    let value = put_text(out, at, name);
+    let end = put_decimal(out, value, n);
+    put_byte(out, end, 10)
+}
+
+fn put_hex_line(out: &mut [u8], at: usize, name: &[u8], n: u32) -> usize
+    requires { ⌜ at + length (now name) + 9 ≤ length (now out) ⌝ }
+    ensures { λ r. ⌜ Puts (now (out .entry)) at (lineOf (now (name .entry)) (hexOf n)) (now (out .exit)) r × (r ≤ at + length (now (name .entry)) + 9) ⌝ }
+{
+    let value = put_text(out, at, name);
+    let end = put_hex_digits(out, value, 8, n as u64);
+    put_byte(out, end, 10)
+}
+
+// ---- the printout, from the start of `out`
+
+fn put_code_line(out: &mut [u8], code: u64) -> usize
+    requires { ⌜ roomNeeded ≤ length (now out) ⌝ }
+    ensures { λ r. ⌜ Puts (now (out .entry)) 0 (codeLine code) (now (out .exit)) r × (r ≤ 26) ⌝ }
+{
+    put_decimal_line(out, 0, b"code ", code)
+}
+
+fn put_five_lines(out: &mut [u8], code: u64, steps: u64, pc: u32, mask: u32, splits: u64) -> usize
+    requires { ⌜ roomNeeded ≤ length (now out) ⌝ }
+    ensures { λ r. ⌜ Puts (now (out .entry)) 0 (fiveLines code steps pc mask splits) (now (out .exit)) r × (r ≤ roomNeeded) ⌝ }
+{
+    let one = put_code_line(out, code);
+    let two = put_decimal_line(out, one, b"steps ", steps);
+    let three = put_hex_line(out, two, b"pc ", pc);
+    let four = put_hex_line(out, three, b"mask ", mask);
+    put_decimal_line(out, four, b"splits ", splits)
+}
+
+// ---- the kernel file's words
+
+fn wide(x: u8) -> u32
+    ensures { λ r. ⌜ (r ≡ x) × (r < 256) ⌝ }
+{
+    x as u32
+}
+
+fn word_at(d: &[u8], i: usize) -> u32
+    requires { ⌜ i + 4 ≤ length (now d) ⌝ }
+    ensures { λ r. ⌜ r ≡ leAt 4 (now (d .entry)) i ⌝ }
+{
+    let a = wide(d[i]);
+    let b = wide(d[i + 1]);
+    let c = wide(d[i + 2]);
+    let e = wide(d[i + 3]);
+    a + 256 * (b + 256 * (c + 256 * e))
+}
+
+// The words of a kernel file at the start of `words`.
+fn put_words(kernel: &[u8], words: &mut [u32])
+    requires { ⌜ length (now kernel) / 4 ≤ length (now words) ⌝ }
+    ensures { λ _. ⌜ take (length (now (kernel .entry)) / 4) (now (words .exit)) ≡ wordsOf (now (kernel .entry)) ⌝ }
+{
+    let n = kernel.len() / 4;
+    let mut i = 0;
+    while i < n {
+        words[i] = word_at(kernel, 4 * i);
+        i += 1;
+    }
+}
+
+// ---- three files in, lines out
+
+const KERNEL_LIMIT: usize = 16384;
+
+const BUDGET: u32 = 65536;
+
+fn card_number(a: card::Answer) -> u64
+    ensures { λ r. ⌜ r ≡ Card·numberOf a ⌝ }
+{
+    match a {
+        card::Answer::Done => 0,
+        card::Answer::OutOfRange => 1,
+        card::Answer::Malformed => 13,
+    }
+}
+
+fn refusal_number(r: Refusal) -> u64
+    ensures { λ n. ⌜ n ≡ refusalOf r ⌝ }
+{
+    match r {
+        Refusal::Size => 1,
+        Refusal::Malformed => 2,
+        Refusal::Ended => 3,
+        Refusal::Waiting => 4,
+        Refusal::OffKernel => 5,
+        Refusal::Unknown => 6,
+        Refusal::BadCsr => 7,
+        Refusal::BadTarget => 8,
+        Refusal::Outside => 9,
+        Refusal::Differing => 10,
+        Refusal::SplitOpen => 11,
+        Refusal::NotWaiting => 12,
+    }
+}
+
+fn number(a: Answer) -> u64
+    ensures { λ r. ⌜ r ≡ numberOf a ⌝ }
+{
+    match a {
+        Answer::Done => 0,
+        Answer::Refused(r) => refusal_number(r),
+    }
+}
+
+// The printout of a launch and a run, the kernel in words.
+fn print_kernel(
+    l: Launch,
+    kernel: &[u32],
+    vector: &mut [u32],
+    bytes: &mut [u8],
+    out: &mut [u8],
+) -> usize
+    requires { ⌜ roomNeeded ≤ length (now out) ⌝ }
+    ensures { λ r. ⌜ Puts (now (out .entry)) 0 (kernelLines (now (kernel .entry)) l (now (vector .entry)) (now (bytes .entry))) (now (out .exit)) r × (r ≤ roomNeeded) ⌝ }
+{
+    let left = machine::launch(l, kernel, vector, bytes);
+    let a = left.answer;
+    let code = number(a);
+    if code != 0 {
+        return put_code_line(out, code);
+    }
+    let w = left.warp;
+    let ran = machine::run(w, kernel, vector, bytes, BUDGET);
+    let b = ran.answer;
+    let u = ran.warp;
+    put_five_lines(
+        out,
+        number(b),
+        ran.steps as u64,
+        u.pc,
+        u.mask,
+        u.depth as u64,
+    )
+}
+
+// The printout of the three files' bytes. `words` has room for the longest kernel.
+pub fn print_files(
+    card: &[u8],
+    kernel: &[u8],
+    bytes: &mut [u8],
+    words: &mut [u32],
+    vector: &mut [u32],
+    out: &mut [u8],
+) -> usize
+    requires { ⌜ (kernelLimit ≤ length (now words)) × (roomNeeded ≤ length (now out)) ⌝ }
+    ensures { λ r. ⌜ Counts r (now (out .exit)) × (take r (now (out .exit)) ≡ printoutOf (now (card .entry)) (now (kernel .entry)) (now (vector .entry)) (now (bytes .entry))) ⌝ }
+{
+    let read = card::read_card(card);
+    let a = read.answer;
+    let code = card_number(a);
+    if code != 0 {
+        return put_code_line(out, code);
+    }
+    if kernel.len() % 4 != 0 {
+        return put_code_line(out, 1);
+    }
+    let n = kernel.len() / 4;
+    if KERNEL_LIMIT < n {
+        return put_code_line(out, 1);
+    }
+    put_words(kernel, words);
+    let l = read.launch;
+    print_kernel(l, &words[..n], vector, bytes, out)
+}

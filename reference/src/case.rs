@@ -1,0 +1,410 @@
+//! Stored cases: the record format, and what the reference answers to each.
+//! The format is written down in CASES-FORMAT.md.
+
+use crate::state::{Fixed, Launch};
+use crate::{card, code, run, saved};
+
+pub const MAGIC: &[u8; 4] = b"WBC1";
+
+/// A kernel: `words`, then `fill` up to `total`.
+#[derive(Clone, Debug, PartialEq, Eq)]
+pub struct Kernel {
+    pub words: Vec<u32>,
+    pub total: u32,
+    pub fill: u32,
+}
+
+/// Data memory: `bytes`, then bytes made from `seed` up to `total`.
+#[derive(Clone, Debug, PartialEq, Eq)]
+pub struct Data {
+    pub bytes: Vec<u8>,
+    pub total: u32,
+    pub seed: u32,
+}
+
+/// A vector file made from a seed; see `Vector::words`.
+#[derive(Clone, Debug, PartialEq, Eq)]
+pub struct Vector {
+    pub total: u32,
+    pub seed: u32,
+    pub base: u32,
+    pub mask: u32,
+}
+
+#[derive(Clone, Debug, PartialEq, Eq)]
+pub enum Case {
+    Launch { card: Vec<u8>, kernel: Kernel, data: Data, vector: Vector, budget: u32 },
+    State { state: Vec<u32>, kernel: Kernel, data: Data, vector: Vector, budget: u32 },
+    CardRead { card: Vec<u8> },
+    Release { state: Vec<u32> },
+    CardWrite { launch: [u32; 14], target: u32 },
+}
+
+/// What one line of the expected output says.
+#[derive(Clone, Copy, Debug, PartialEq, Eq)]
+pub struct Answer {
+    pub code: u32,
+    pub steps: u32,
+    pub pc: u32,
+    pub mask: u32,
+    pub splits: u32,
+    pub digest: u32,
+}
+
+impl Answer {
+    pub fn line(&self, number: usize) -> String {
+        format!(
+            "{number} {} {} {:08x} {:08x} {} {:08x}\n",
+            self.code, self.steps, self.pc, self.mask, self.splits, self.digest
+        )
+    }
+}
+
+fn lcg(x: u32) -> u32 {
+    x.wrapping_mul(1_664_525).wrapping_add(1_013_904_223)
+}
+
+impl Kernel {
+    pub fn plain(words: Vec<u32>) -> Kernel {
+        Kernel { total: words.len() as u32, words, fill: 0 }
+    }
+
+    pub fn build(&self) -> Vec<u32> {
+        let mut all = self.words.clone();
+        all.resize(self.total as usize, self.fill);
+        all
+    }
+}
+
+impl Data {
+    pub fn build(&self) -> Vec<u8> {
+        let mut all = self.bytes.clone();
+        let mut x = self.seed;
+        while all.len() < self.total as usize {
+            x = lcg(x);
+            all.push((x >> 24) as u8);
+        }
+        all
+    }
+}
+
+impl Vector {
+    /// Word i belongs to register i / 32; the register's number modulo 4
+    /// chooses how the generator's value is used.
+    pub fn build(&self) -> Vec<u32> {
+        const CORNERS: [u32; 8] = [0, 1, 0xffff_ffff, 0x8000_0000, 0x7fff_ffff, 2, 0xffff_fffe, 31];
+        let mut x = self.seed;
+        (0..self.total)
+            .map(|i| {
+                x = lcg(x);
+                match i / 32 % 4 {
+                    0 => x,
+                    1 => x >> 28,
+                    2 => self.base.wrapping_add(x >> 8 & self.mask),
+                    _ => CORNERS[(x >> 29) as usize],
+                }
+            })
+            .collect()
+    }
+}
+
+/// FNV-1a, 32 bits.
+struct Digest(u32);
+
+impl Digest {
+    fn new() -> Digest {
+        Digest(0x811c_9dc5)
+    }
+    fn bytes(mut self, bytes: &[u8]) -> Digest {
+        for byte in bytes {
+            self.0 = (self.0 ^ u32::from(*byte)).wrapping_mul(0x0100_0193);
+        }
+        self
+    }
+    fn words(self, words: &[u32]) -> Digest {
+        words.iter().fold(self, |digest, word| digest.bytes(&word.to_le_bytes()))
+    }
+}
+
+pub fn launch_words(l: &Launch) -> [u32; 14] {
+    let f = &l.fixed;
+    [
+        f.numt,
+        f.numw,
+        f.wid,
+        f.mask,
+        f.code_base,
+        f.data_base,
+        l.entry,
+        f.knl,
+        f.wgid,
+        f.lds,
+        f.pds,
+        f.gidx,
+        f.gidy,
+        f.gidz,
+    ]
+}
+
+pub fn launch_of(w: &[u32; 14]) -> Launch {
+    Launch {
+        fixed: Fixed {
+            numt: w[0],
+            numw: w[1],
+            wid: w[2],
+            mask: w[3],
+            code_base: w[4],
+            data_base: w[5],
+            knl: w[7],
+            wgid: w[8],
+            lds: w[9],
+            pds: w[10],
+            gidx: w[11],
+            gidy: w[12],
+            gidz: w[13],
+        },
+        entry: w[6],
+    }
+}
+
+/// The answer of the reference to a case.
+pub fn evaluate(case: &Case) -> Answer {
+    match case {
+        Case::Launch { card, kernel, data, vector, budget } => {
+            let kernel = kernel.build();
+            let (mut data, mut vector) = (data.build(), vector.build());
+            let (code, steps, state) = match card::read(card) {
+                Err(refusal) => (refusal.number(), 0, [0; saved::WORDS]),
+                Ok(launch) => {
+                    let (code, mut warp) = run::launch(&launch, &kernel, &mut vector, &data);
+                    let (code, steps) = if code == 0 {
+                        run::run(&mut warp, &kernel, &mut vector, &mut data, *budget)
+                    } else {
+                        (code, 0)
+                    };
+                    (code, steps, saved::to_words(&warp))
+                }
+            };
+            answer(code, steps, &state, &vector, &data)
+        }
+        Case::State { state, kernel, data, vector, budget } => {
+            let kernel = kernel.build();
+            let (mut data, mut vector) = (data.build(), vector.build());
+            let mut state = state.clone();
+            let (code, steps) = saved::run(&mut state, &kernel, &mut vector, &mut data, *budget);
+            answer(code, steps, &state, &vector, &data)
+        }
+        Case::CardRead { card } => {
+            let (code, launch) = match card::read(card) {
+                Ok(launch) => (0, launch),
+                Err(refusal) => (refusal.number(), Launch::default()),
+            };
+            let words = launch_words(&launch);
+            Answer {
+                code,
+                steps: 0,
+                pc: launch.entry,
+                mask: launch.fixed.mask,
+                splits: 0,
+                digest: Digest::new().words(&words).0,
+            }
+        }
+        Case::Release { state } => {
+            let mut state = state.clone();
+            let code = saved::release(&mut state);
+            answer(code, 0, &state, &[], &[])
+        }
+        Case::CardWrite { launch, target } => {
+            let mut bytes = vec![0xa5; *target as usize];
+            let code = code(card::write(&launch_of(launch), &mut bytes));
+            Answer {
+                code,
+                steps: 0,
+                pc: 0,
+                mask: 0,
+                splits: 0,
+                digest: Digest::new().bytes(&bytes).0,
+            }
+        }
+    }
+}
+
+fn answer(code: u32, steps: u32, state: &[u32], vector: &[u32], data: &[u8]) -> Answer {
+    let whole = state.len() == saved::WORDS;
+    let word = |at: usize| if whole { state[at] } else { 0 };
+    Answer {
+        code,
+        steps,
+        pc: word(saved::PC_AT),
+        mask: word(saved::MASK_AT),
+        splits: word(saved::OPEN_AT),
+        digest: Digest::new().words(state).words(vector).bytes(data).0,
+    }
+}
+
+// Writing.
+
+fn put(out: &mut Vec<u8>, word: u32) {
+    out.extend_from_slice(&word.to_be_bytes());
+}
+
+fn put_bytes(out: &mut Vec<u8>, bytes: &[u8]) {
+    put(out, bytes.len() as u32);
+    out.extend_from_slice(bytes);
+}
+
+fn put_runs(out: &mut Vec<u8>, kernel: &Kernel, data: &Data, vector: &Vector, budget: u32) {
+    put(out, kernel.total);
+    put(out, kernel.words.len() as u32);
+    kernel.words.iter().for_each(|w| put(out, *w));
+    put(out, kernel.fill);
+    put(out, data.total);
+    put_bytes(out, &data.bytes);
+    put(out, data.seed);
+    put(out, vector.total);
+    put(out, vector.seed);
+    put(out, vector.base);
+    put(out, vector.mask);
+    put(out, budget);
+}
+
+fn put_state(out: &mut Vec<u8>, state: &[u32]) {
+    let set: Vec<(usize, u32)> =
+        state.iter().copied().enumerate().filter(|(_, w)| *w != 0).collect();
+    put(out, state.len() as u32);
+    put(out, set.len() as u32);
+    for (at, word) in set {
+        out.push(u8::try_from(at).expect("only the first 256 words may be set"));
+        put(out, word);
+    }
+}
+
+pub fn write_file(cases: &[Case]) -> Vec<u8> {
+    let mut out = MAGIC.to_vec();
+    put(&mut out, cases.len() as u32);
+    for case in cases {
+        let mut body = Vec::new();
+        let kind = match case {
+            Case::Launch { card, kernel, data, vector, budget } => {
+                put_bytes(&mut body, card);
+                put_runs(&mut body, kernel, data, vector, *budget);
+                1
+            }
+            Case::State { state, kernel, data, vector, budget } => {
+                put_state(&mut body, state);
+                put_runs(&mut body, kernel, data, vector, *budget);
+                2
+            }
+            Case::CardRead { card } => {
+                put_bytes(&mut body, card);
+                3
+            }
+            Case::Release { state } => {
+                put_state(&mut body, state);
+                4
+            }
+            Case::CardWrite { launch, target } => {
+                launch.iter().for_each(|w| put(&mut body, *w));
+                put(&mut body, *target);
+                5
+            }
+        };
+        out.push(kind);
+        put_bytes(&mut out, &body);
+    }
+    out
+}
+
+// Reading.
+
+struct Reader<'a>(&'a [u8]);
+
+impl<'a> Reader<'a> {
+    fn bytes(&mut self, count: usize) -> Option<&'a [u8]> {
+        if self.0.len() < count {
+            return None;
+        }
+        let (head, tail) = self.0.split_at(count);
+        self.0 = tail;
+        Some(head)
+    }
+    fn byte(&mut self) -> Option<u8> {
+        Some(self.bytes(1)?[0])
+    }
+    fn word(&mut self) -> Option<u32> {
+        Some(u32::from_be_bytes(self.bytes(4)?.try_into().ok()?))
+    }
+    fn run(&mut self) -> Option<&'a [u8]> {
+        let count = self.word()? as usize;
+        self.bytes(count)
+    }
+    fn kernel(&mut self) -> Option<Kernel> {
+        let total = self.word()?;
+        let count = self.word()?;
+        let words = (0..count).map(|_| self.word()).collect::<Option<_>>()?;
+        Some(Kernel { words, total, fill: self.word()? })
+    }
+    fn data(&mut self) -> Option<Data> {
+        let total = self.word()?;
+        let bytes = self.run()?.to_vec();
+        Some(Data { bytes, total, seed: self.word()? })
+    }
+    fn vector(&mut self) -> Option<Vector> {
+        Some(Vector {
+            total: self.word()?,
+            seed: self.word()?,
+            base: self.word()?,
+            mask: self.word()?,
+        })
+    }
+    fn state(&mut self) -> Option<Vec<u32>> {
+        let mut state = vec![0; self.word()? as usize];
+        for _ in 0..self.word()? {
+            let at = self.byte()? as usize;
+            *state.get_mut(at)? = self.word()?;
+        }
+        Some(state)
+    }
+    fn case(&mut self) -> Option<Case> {
+        let kind = self.byte()?;
+        let mut r = Reader(self.run()?);
+        let case = match kind {
+            1 => Case::Launch {
+                card: r.run()?.to_vec(),
+                kernel: r.kernel()?,
+                data: r.data()?,
+                vector: r.vector()?,
+                budget: r.word()?,
+            },
+            2 => Case::State {
+                state: r.state()?,
+                kernel: r.kernel()?,
+                data: r.data()?,
+                vector: r.vector()?,
+                budget: r.word()?,
+            },
+            3 => Case::CardRead { card: r.run()?.to_vec() },
+            4 => Case::Release { state: r.state()? },
+            5 => {
+                let mut launch = [0; 14];
+                for word in &mut launch {
+                    *word = r.word()?;
+                }
+                Case::CardWrite { launch, target: r.word()? }
+            }
+            _ => return None,
+        };
+        r.0.is_empty().then_some(case)
+    }
+}
+
+/// All cases of a case file; `None` if it is not one.
+pub fn read_file(bytes: &[u8]) -> Option<Vec<Case>> {
+    let mut r = Reader(bytes);
+    if r.bytes(4)? != MAGIC {
+        return None;
+    }
+    let count = r.word()?;
+    let cases = (0..count).map(|_| r.case()).collect::<Option<Vec<_>>>()?;
+    r.0.is_empty().then_some(cases)
+}

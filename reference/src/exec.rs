@@ -1,0 +1,485 @@
+//! One step of a well-formed warp over lent runs of the right sizes.
+
+use crate::isa::{
+    decode, AluOp, Cond, CsrOp, CsrSrc, Insn, LoadKind, Space, StoreKind, VOp, VSrc, V, X,
+};
+use crate::state::{Fixed, Split, Warp, LANES};
+use crate::Refusal;
+
+/// The vector file: register r, lane l is `file[r][l]`.
+pub type VectorFile = [[u32; LANES]; 32];
+
+type Step = Result<(), Refusal>;
+
+/// Fetch, decode and do one word. A refusal changes nothing.
+#[inline]
+pub fn step(w: &mut Warp, kernel: &[u32], v: &mut VectorFile, data: &mut [u8]) -> Step {
+    if w.ended {
+        return Err(Refusal::Ended);
+    }
+    if w.waiting {
+        return Err(Refusal::Waiting);
+    }
+    let word = fetch(w, kernel).ok_or(Refusal::NoWord)?;
+    let insn = decode(word).ok_or(Refusal::NoInstruction)?;
+    execute(w, insn, v, data)
+}
+
+/// The word that the PC lies on.
+#[inline]
+pub fn fetch(w: &Warp, kernel: &[u32]) -> Option<u32> {
+    let offset = w.pc.checked_sub(w.fixed.code_base)?;
+    kernel.get((offset / 4) as usize).copied()
+}
+
+#[inline]
+fn execute(w: &mut Warp, insn: Insn, v: &mut VectorFile, data: &mut [u8]) -> Step {
+    match insn {
+        Insn::Lui { rd, imm } => set(w, rd, imm),
+        Insn::Auipc { rd, imm } => set(w, rd, w.pc.wrapping_add(imm)),
+        Insn::Jal { rd, off } => return jump(w, rd, w.pc.wrapping_add(off)),
+        Insn::Jalr { rd, rs1, imm } => return jump(w, rd, get(w, rs1).wrapping_add(imm) & !1),
+        Insn::Branch { cond, rs1, rs2, off } => {
+            if holds(cond, get(w, rs1), get(w, rs2)) {
+                w.pc = aligned(w.pc.wrapping_add(off))?;
+                return Ok(());
+            }
+        }
+        Insn::Load { kind, rd, rs1, off } => {
+            let at =
+                place(data, w.fixed.data_base, get(w, rs1).wrapping_add(off), load_size(kind))?;
+            set(w, rd, load(data, kind, at));
+        }
+        Insn::Store { kind, rs1, rs2, off } => {
+            let at =
+                place(data, w.fixed.data_base, get(w, rs1).wrapping_add(off), store_size(kind))?;
+            store(data, kind, at, get(w, rs2));
+        }
+        Insn::AluImm { op, rd, rs1, imm } => set(w, rd, alu(op, get(w, rs1), imm)),
+        Insn::Alu { op, rd, rs1, rs2 } => set(w, rd, alu(op, get(w, rs1), get(w, rs2))),
+        Insn::Fence => {}
+        Insn::Csr { op, rd, csr, src } => csr_step(w, op, rd, csr, src)?,
+        Insn::Vbranch { cond, vs1, vs2, off } => return vbranch(w, v, cond, vs1, vs2, off),
+        Insn::Join => {
+            join(w);
+            return Ok(());
+        }
+        Insn::SetRpc { rd, rs1, imm } => {
+            w.rpc = get(w, rs1).wrapping_add(imm);
+            set(w, rd, w.rpc);
+        }
+        Insn::EndPrg => {
+            if w.depth != 0 {
+                return Err(Refusal::SplitOpen);
+            }
+            w.ended = true;
+            return Ok(());
+        }
+        Insn::Barrier => {
+            if w.depth != 0 {
+                return Err(Refusal::SplitOpen);
+            }
+            w.waiting = true;
+        }
+        Insn::Vec { op, vd, vs2, src } => {
+            let src = match src {
+                VSrc::V(vs1) => v[vs1.index()],
+                VSrc::X(rs1) => [get(w, rs1); LANES],
+                VSrc::I(imm) => [imm; LANES],
+            };
+            vector(op, w.mask, v, vd, vs2, &src);
+        }
+        Insn::VmvSX { vd, rs1 } => {
+            let value = get(w, rs1);
+            lanes(w.mask, &mut v[vd.index()], |_| value);
+        }
+        Insn::VmvXS { rd, vs2 } => {
+            let value = uniform(w.mask, &v[vs2.index()]).ok_or(Refusal::Differ)?;
+            set(w, rd, value);
+        }
+        Insn::Vid { vd } => lanes(w.mask, &mut v[vd.index()], |lane| lane as u32),
+        Insn::Vload { space, kind, vd, vs1, off } => {
+            let at = places(w, data, &v[vs1.index()], space, off, load_size(kind))?;
+            for lane in active(w.mask) {
+                v[vd.index()][lane] = load(data, kind, at[lane]);
+            }
+        }
+        Insn::Vstore { space, kind, vs1, vs2, off } => {
+            let at = places(w, data, &v[vs1.index()], space, off, store_size(kind))?;
+            // Ascending, so that the highest lane wins a shared byte.
+            for lane in active(w.mask) {
+                store(data, kind, at[lane], v[vs2.index()][lane]);
+            }
+        }
+    }
+    w.pc = w.pc.wrapping_add(4);
+    Ok(())
+}
+
+// Scalar side.
+
+#[inline]
+fn get(w: &Warp, r: X) -> u32 {
+    w.x[r.index()]
+}
+
+#[inline]
+fn set(w: &mut Warp, r: X, value: u32) {
+    if r.index() != 0 {
+        w.x[r.index()] = value;
+    }
+}
+
+#[inline]
+fn aligned(target: u32) -> Result<u32, Refusal> {
+    if target.is_multiple_of(4) {
+        Ok(target)
+    } else {
+        Err(Refusal::Target)
+    }
+}
+
+#[inline]
+fn jump(w: &mut Warp, rd: X, target: u32) -> Step {
+    let target = aligned(target)?;
+    set(w, rd, w.pc.wrapping_add(4));
+    w.pc = target;
+    Ok(())
+}
+
+#[inline]
+fn holds(cond: Cond, a: u32, b: u32) -> bool {
+    match cond {
+        Cond::Eq => a == b,
+        Cond::Ne => a != b,
+        Cond::Lt => (a as i32) < (b as i32),
+        Cond::Ge => (a as i32) >= (b as i32),
+        Cond::Ltu => a < b,
+        Cond::Geu => a >= b,
+    }
+}
+
+#[inline]
+fn alu(op: AluOp, a: u32, b: u32) -> u32 {
+    match op {
+        AluOp::Add => a.wrapping_add(b),
+        AluOp::Sub => a.wrapping_sub(b),
+        AluOp::Sll => a.wrapping_shl(b),
+        AluOp::Slt => ((a as i32) < (b as i32)).into(),
+        AluOp::Sltu => (a < b).into(),
+        AluOp::Xor => a ^ b,
+        AluOp::Srl => a.wrapping_shr(b),
+        AluOp::Sra => (a as i32).wrapping_shr(b) as u32,
+        AluOp::Or => a | b,
+        AluOp::And => a & b,
+        AluOp::Mul => a.wrapping_mul(b),
+        AluOp::Mulh => mulh(a, b),
+        AluOp::Mulhsu => mulhsu(a, b),
+        AluOp::Mulhu => mulhu(a, b),
+        AluOp::Div => div(a, b),
+        AluOp::Divu => divu(a, b),
+        AluOp::Rem => rem(a, b),
+        AluOp::Remu => remu(a, b),
+    }
+}
+
+fn mulh(a: u32, b: u32) -> u32 {
+    ((i64::from(a as i32) * i64::from(b as i32)) >> 32) as u32
+}
+
+/// High word of signed a times unsigned b.
+fn mulhsu(a: u32, b: u32) -> u32 {
+    ((i64::from(a as i32) * i64::from(b)) >> 32) as u32
+}
+
+fn mulhu(a: u32, b: u32) -> u32 {
+    ((u64::from(a) * u64::from(b)) >> 32) as u32
+}
+
+fn div(a: u32, b: u32) -> u32 {
+    if b == 0 {
+        u32::MAX
+    } else {
+        (a as i32).wrapping_div(b as i32) as u32
+    }
+}
+
+fn divu(a: u32, b: u32) -> u32 {
+    a.checked_div(b).unwrap_or(u32::MAX)
+}
+
+fn rem(a: u32, b: u32) -> u32 {
+    if b == 0 {
+        a
+    } else {
+        (a as i32).wrapping_rem(b as i32) as u32
+    }
+}
+
+fn remu(a: u32, b: u32) -> u32 {
+    a.checked_rem(b).unwrap_or(a)
+}
+
+const PRINT: u32 = 0x80b;
+const RPC: u32 = 0x80c;
+
+fn csr_read(w: &Warp, csr: u32) -> Option<u32> {
+    let f = &w.fixed;
+    Some(match csr {
+        0x800 => f.tid(),
+        0x801 => f.numw,
+        0x802 => f.numt,
+        0x803 => f.knl,
+        0x804 => f.wgid,
+        0x805 => f.wid,
+        0x806 => f.lds,
+        0x807 => f.pds,
+        0x808 => f.gidx,
+        0x809 => f.gidy,
+        0x80a => f.gidz,
+        PRINT => w.print,
+        RPC => w.rpc,
+        _ => return None,
+    })
+}
+
+fn csr_step(w: &mut Warp, op: CsrOp, rd: X, csr: u32, src: CsrSrc) -> Step {
+    let old = csr_read(w, csr).ok_or(Refusal::Csr)?;
+    let (operand, field_zero) = match src {
+        CsrSrc::X(rs1) => (get(w, rs1), rs1.index() == 0),
+        CsrSrc::I(imm) => (imm, imm == 0),
+    };
+    if op == CsrOp::Write || !field_zero {
+        let new = match op {
+            CsrOp::Write => operand,
+            CsrOp::Set => old | operand,
+            CsrOp::Clear => old & !operand,
+        };
+        match csr {
+            PRINT => w.print = new,
+            RPC => w.rpc = new,
+            _ => return Err(Refusal::Csr),
+        }
+    }
+    set(w, rd, old);
+    Ok(())
+}
+
+// Splits and joins.
+
+fn vbranch(w: &mut Warp, v: &VectorFile, cond: Cond, vs1: V, vs2: V, off: u32) -> Step {
+    let (a, b) = (&v[vs1.index()], &v[vs2.index()]);
+    let holding = match cond {
+        Cond::Eq => compare(a, b, |a, b| a == b),
+        Cond::Ne => compare(a, b, |a, b| a != b),
+        Cond::Lt => compare(a, b, |a, b| (a as i32) < (b as i32)),
+        Cond::Ge => compare(a, b, |a, b| (a as i32) >= (b as i32)),
+        Cond::Ltu => compare(a, b, |a, b| a < b),
+        Cond::Geu => compare(a, b, |a, b| a >= b),
+    };
+    let else_mask = holding & w.mask;
+    let next = w.pc.wrapping_add(4);
+    if else_mask == 0 {
+        w.pc = next;
+        return Ok(());
+    }
+    let else_pc = aligned(w.pc.wrapping_add(off))?;
+    if else_mask == w.mask {
+        w.pc = else_pc;
+        return Ok(());
+    }
+    // At most 31 splits fit inside 32 lanes, so the place is there.
+    w.splits[w.depth as usize] =
+        Split { rpc: w.rpc, full: w.mask, else_mask, else_pc, phase_two: false };
+    w.depth += 1;
+    w.mask &= !else_mask;
+    w.pc = next;
+    Ok(())
+}
+
+#[inline]
+fn compare(a: &[u32; LANES], b: &[u32; LANES], f: impl Fn(u32, u32) -> bool) -> u32 {
+    (0..LANES).fold(0, |mask, lane| mask | if f(a[lane], b[lane]) { BIT[lane] } else { 0 })
+}
+
+fn join(w: &mut Warp) {
+    let open = w.depth as usize;
+    if let Some(last) = w.splits[..open].last_mut() {
+        if last.rpc == w.pc {
+            if last.phase_two {
+                w.mask = last.full;
+                *last = Split::default();
+                w.depth -= 1;
+            } else {
+                last.phase_two = true;
+                w.mask = last.else_mask;
+                w.pc = last.else_pc;
+            }
+            return;
+        }
+    }
+    w.pc = w.pc.wrapping_add(4);
+}
+
+// Vector side.
+
+/// The active lanes, lowest first.
+#[inline]
+fn active(mut mask: u32) -> impl Iterator<Item = usize> {
+    std::iter::from_fn(move || {
+        (mask != 0).then(|| {
+            let lane = mask.trailing_zeros() as usize;
+            mask &= mask - 1;
+            lane
+        })
+    })
+}
+
+/// The mask bit of each lane.
+const BIT: [u32; LANES] = {
+    let mut bit = [0; LANES];
+    let mut lane = 0;
+    while lane < LANES {
+        bit[lane] = 1 << lane;
+        lane += 1;
+    }
+    bit
+};
+
+/// Write the active lanes of one register; `f` is cheap, so it is done for all
+/// lanes and blended.
+#[inline]
+fn lanes(mask: u32, d: &mut [u32; LANES], f: impl Fn(usize) -> u32) {
+    for lane in 0..LANES {
+        let keep = u32::from(mask & BIT[lane] != 0).wrapping_sub(1);
+        d[lane] = d[lane] & keep | f(lane) & !keep;
+    }
+}
+
+fn vector(op: VOp, mask: u32, v: &mut VectorFile, vd: V, vs2: V, b: &[u32; LANES]) {
+    let a = v[vs2.index()];
+    let d = &mut v[vd.index()];
+    match op {
+        VOp::Add => lanes(mask, d, |l| a[l].wrapping_add(b[l])),
+        VOp::Sub => lanes(mask, d, |l| a[l].wrapping_sub(b[l])),
+        VOp::Rsub => lanes(mask, d, |l| b[l].wrapping_sub(a[l])),
+        VOp::Minu => lanes(mask, d, |l| a[l].min(b[l])),
+        VOp::Min => lanes(mask, d, |l| (a[l] as i32).min(b[l] as i32) as u32),
+        VOp::Maxu => lanes(mask, d, |l| a[l].max(b[l])),
+        VOp::Max => lanes(mask, d, |l| (a[l] as i32).max(b[l] as i32) as u32),
+        VOp::And => lanes(mask, d, |l| a[l] & b[l]),
+        VOp::Or => lanes(mask, d, |l| a[l] | b[l]),
+        VOp::Xor => lanes(mask, d, |l| a[l] ^ b[l]),
+        VOp::Sll => lanes(mask, d, |l| a[l].wrapping_shl(b[l])),
+        VOp::Srl => lanes(mask, d, |l| a[l].wrapping_shr(b[l])),
+        VOp::Sra => lanes(mask, d, |l| (a[l] as i32).wrapping_shr(b[l]) as u32),
+        VOp::Seq => lanes(mask, d, |l| (a[l] == b[l]).into()),
+        VOp::Sne => lanes(mask, d, |l| (a[l] != b[l]).into()),
+        VOp::Sltu => lanes(mask, d, |l| (a[l] < b[l]).into()),
+        VOp::Slt => lanes(mask, d, |l| ((a[l] as i32) < (b[l] as i32)).into()),
+        VOp::Sleu => lanes(mask, d, |l| (a[l] <= b[l]).into()),
+        VOp::Sle => lanes(mask, d, |l| ((a[l] as i32) <= (b[l] as i32)).into()),
+        VOp::Sgtu => lanes(mask, d, |l| (a[l] > b[l]).into()),
+        VOp::Sgt => lanes(mask, d, |l| ((a[l] as i32) > (b[l] as i32)).into()),
+        VOp::Mv => lanes(mask, d, |l| b[l]),
+        VOp::Mulhu => lanes(mask, d, |l| mulhu(a[l], b[l])),
+        VOp::Mul => lanes(mask, d, |l| a[l].wrapping_mul(b[l])),
+        VOp::Mulhsu => lanes(mask, d, |l| mulhsu(a[l], b[l])),
+        VOp::Mulh => lanes(mask, d, |l| mulh(a[l], b[l])),
+        VOp::Divu => active(mask).for_each(|l| d[l] = divu(a[l], b[l])),
+        VOp::Div => active(mask).for_each(|l| d[l] = div(a[l], b[l])),
+        VOp::Remu => active(mask).for_each(|l| d[l] = remu(a[l], b[l])),
+        VOp::Rem => active(mask).for_each(|l| d[l] = rem(a[l], b[l])),
+    }
+}
+
+/// The value that all active lanes hold.
+fn uniform(mask: u32, a: &[u32; LANES]) -> Option<u32> {
+    let mut values = active(mask).map(|lane| a[lane]);
+    let first = values.next()?;
+    values.all(|value| value == first).then_some(first)
+}
+
+// Data memory.
+
+#[inline]
+fn load_size(kind: LoadKind) -> usize {
+    match kind {
+        LoadKind::B | LoadKind::Bu => 1,
+        LoadKind::H | LoadKind::Hu => 2,
+        LoadKind::W => 4,
+    }
+}
+
+#[inline]
+fn store_size(kind: StoreKind) -> usize {
+    match kind {
+        StoreKind::B => 1,
+        StoreKind::H => 2,
+        StoreKind::W => 4,
+    }
+}
+
+/// Where in the data run an access begins, if it lies wholly inside.
+#[inline]
+fn place(data: &[u8], base: u32, address: u32, size: usize) -> Result<usize, Refusal> {
+    let at = address.checked_sub(base).ok_or(Refusal::Access)? as usize;
+    match data.len().checked_sub(size) {
+        Some(last) if at <= last => Ok(at),
+        _ => Err(Refusal::Access),
+    }
+}
+
+#[inline]
+fn load(data: &[u8], kind: LoadKind, at: usize) -> u32 {
+    match kind {
+        LoadKind::B => data[at] as i8 as u32,
+        LoadKind::Bu => data[at].into(),
+        LoadKind::H => i16::from_le_bytes([data[at], data[at + 1]]) as u32,
+        LoadKind::Hu => u16::from_le_bytes([data[at], data[at + 1]]).into(),
+        LoadKind::W => {
+            let bytes = &data[at..at + 4];
+            u32::from_le_bytes([bytes[0], bytes[1], bytes[2], bytes[3]])
+        }
+    }
+}
+
+#[inline]
+fn store(data: &mut [u8], kind: StoreKind, at: usize, value: u32) {
+    match kind {
+        StoreKind::B => data[at] = value as u8,
+        StoreKind::H => data[at..at + 2].copy_from_slice(&(value as u16).to_le_bytes()),
+        StoreKind::W => data[at..at + 4].copy_from_slice(&value.to_le_bytes()),
+    }
+}
+
+/// The address of one lane's access.
+#[inline]
+fn address(f: &Fixed, space: Space, lane: usize, base: u32, off: u32) -> u32 {
+    let sum = base.wrapping_add(off);
+    match space {
+        Space::Flat => sum,
+        Space::Private => sum
+            .wrapping_mul(f.numw.wrapping_mul(f.numt))
+            .wrapping_add(f.tid().wrapping_add(lane as u32))
+            .wrapping_add(f.pds),
+    }
+}
+
+/// Every active lane's place, tested before any lane acts.
+#[inline]
+fn places(
+    w: &Warp,
+    data: &[u8],
+    bases: &[u32; LANES],
+    space: Space,
+    off: u32,
+    size: usize,
+) -> Result<[usize; LANES], Refusal> {
+    let mut at = [0; LANES];
+    for lane in active(w.mask) {
+        let address = address(&w.fixed, space, lane, bases[lane], off);
+        at[lane] = place(data, w.fixed.data_base, address, size)?;
+    }
+    Ok(at)
+}

@@ -1,0 +1,59 @@
+//! Reference interpreter of the warp bench machine, written from the rules
+//! (the scope paper) alone. It shares no code with the machine it checks.
+#![forbid(unsafe_code)]
+
+pub mod card;
+pub mod case;
+pub mod exec;
+pub mod isa;
+pub mod print;
+pub mod run;
+pub mod saved;
+pub mod state;
+pub mod table;
+
+/// The refusal numbers.
+#[derive(Clone, Copy, Debug, PartialEq, Eq)]
+#[repr(u32)]
+pub enum Refusal {
+    /// 1: a lent run's size, a base plus length, or a launch value.
+    Size = 1,
+    /// 2: the state handed in is not well formed.
+    IllFormed = 2,
+    /// 3: the warp has ended.
+    Ended = 3,
+    /// 4: the warp waits at a barrier.
+    Waiting = 4,
+    /// 5: the PC lies on no kernel word.
+    NoWord = 5,
+    /// 6: the word is not in the instruction tables.
+    NoInstruction = 6,
+    /// 7: a CSR that does not exist, or a write to one that is fixed.
+    Csr = 7,
+    /// 8: a taken jump or branch to a PC that is no multiple of 4.
+    Target = 8,
+    /// 9: an access not wholly inside data memory.
+    Access = 9,
+    /// 10: vmv.x.s over lanes that differ.
+    Differ = 10,
+    /// 11: ENDPRG or BARRIER with a split open.
+    SplitOpen = 11,
+    /// 12: release of a warp that does not wait.
+    NotWaiting = 12,
+    /// 13: malformed launch card.
+    Card = 13,
+}
+
+impl Refusal {
+    pub fn number(self) -> u32 {
+        self as u32
+    }
+}
+
+/// The number of a call: 0 if it was not refused.
+pub fn code(answer: Result<(), Refusal>) -> u32 {
+    match answer {
+        Ok(()) => 0,
+        Err(refusal) => refusal.number(),
+    }
+}

@@ -1,0 +1,141 @@
+//! A warp as 207 words (the layout is in CASES-FORMAT.md), and the calls over them.
+
+use crate::run;
+use crate::state::{Fixed, Split, Warp, SPLITS};
+use crate::{code, Refusal};
+
+pub const WORDS: usize = 207;
+
+const SPLIT_WORDS: usize = 5;
+pub const SPLITS_AT: usize = 32;
+pub const OPEN_AT: usize = SPLITS_AT + SPLIT_WORDS * SPLITS;
+pub const PC_AT: usize = OPEN_AT + 1;
+pub const MASK_AT: usize = OPEN_AT + 2;
+const RPC_AT: usize = OPEN_AT + 3;
+const PRINT_AT: usize = OPEN_AT + 4;
+const ENDED_AT: usize = OPEN_AT + 5;
+const WAITING_AT: usize = OPEN_AT + 6;
+const FIXED_AT: usize = OPEN_AT + 7;
+const CODE_BASE_AT: usize = FIXED_AT + 4;
+const DATA_BASE_AT: usize = FIXED_AT + 5;
+
+pub fn to_words(warp: &Warp) -> [u32; WORDS] {
+    let mut words = [0; WORDS];
+    words[..SPLITS_AT].copy_from_slice(&warp.x);
+    for (place, s) in words[SPLITS_AT..OPEN_AT].chunks_exact_mut(SPLIT_WORDS).zip(&warp.splits) {
+        place.copy_from_slice(&[s.rpc, s.full, s.else_mask, s.else_pc, s.phase_two.into()]);
+    }
+    let f = &warp.fixed;
+    words[OPEN_AT..].copy_from_slice(&[
+        warp.depth,
+        warp.pc,
+        warp.mask,
+        warp.rpc,
+        warp.print,
+        warp.ended.into(),
+        warp.waiting.into(),
+        f.numt,
+        f.numw,
+        f.wid,
+        f.mask,
+        f.code_base,
+        f.data_base,
+        f.knl,
+        f.wgid,
+        f.lds,
+        f.pds,
+        f.gidx,
+        f.gidy,
+        f.gidz,
+    ]);
+    words
+}
+
+/// Read 207 words: another length is 1; a flag or phase that is neither 0
+/// nor 1, or more than 31 open, is 2. Nothing else is tested here.
+pub fn from_words(words: &[u32]) -> Result<Warp, Refusal> {
+    let words: &[u32; WORDS] = words.try_into().map_err(|_| Refusal::Size)?;
+    let flag = |word: u32| match word {
+        0 => Ok(false),
+        1 => Ok(true),
+        _ => Err(Refusal::IllFormed),
+    };
+    let mut splits = [Split::default(); SPLITS];
+    for (split, w) in splits.iter_mut().zip(words[SPLITS_AT..OPEN_AT].chunks_exact(SPLIT_WORDS)) {
+        *split =
+            Split { rpc: w[0], full: w[1], else_mask: w[2], else_pc: w[3], phase_two: flag(w[4])? };
+    }
+    if words[OPEN_AT] as usize > SPLITS {
+        return Err(Refusal::IllFormed);
+    }
+    let mut x = [0; 32];
+    x.copy_from_slice(&words[..SPLITS_AT]);
+    Ok(Warp {
+        x,
+        splits,
+        depth: words[OPEN_AT],
+        pc: words[PC_AT],
+        mask: words[MASK_AT],
+        rpc: words[RPC_AT],
+        print: words[PRINT_AT],
+        ended: flag(words[ENDED_AT])?,
+        waiting: flag(words[WAITING_AT])?,
+        fixed: Fixed {
+            numt: words[FIXED_AT],
+            numw: words[FIXED_AT + 1],
+            wid: words[FIXED_AT + 2],
+            mask: words[FIXED_AT + 3],
+            code_base: words[CODE_BASE_AT],
+            data_base: words[DATA_BASE_AT],
+            knl: words[FIXED_AT + 6],
+            wgid: words[FIXED_AT + 7],
+            lds: words[FIXED_AT + 8],
+            pds: words[FIXED_AT + 9],
+            gidx: words[FIXED_AT + 10],
+            gidy: words[FIXED_AT + 11],
+            gidz: words[FIXED_AT + 12],
+        },
+    })
+}
+
+/// Run a saved state in place: 1 for any lent run (the state's own among
+/// them), then 2, then the steps.
+pub fn run(
+    state: &mut [u32],
+    kernel: &[u32],
+    vector: &mut [u32],
+    data: &mut [u8],
+    budget: u32,
+) -> (u32, u32) {
+    let mut warp = match opened(state, kernel, vector, data) {
+        Ok(warp) => warp,
+        Err(refusal) => return (refusal.number(), 0),
+    };
+    let answer = run::run(&mut warp, kernel, vector, data, budget);
+    state.copy_from_slice(&to_words(&warp));
+    answer
+}
+
+/// Take one step of a saved state in place.
+pub fn step(state: &mut [u32], kernel: &[u32], vector: &mut [u32], data: &mut [u8]) -> u32 {
+    run(state, kernel, vector, data, 1).0
+}
+
+/// Release a saved state in place.
+pub fn release(state: &mut [u32]) -> u32 {
+    let mut warp = match from_words(state) {
+        Ok(warp) => warp,
+        Err(refusal) => return refusal.number(),
+    };
+    let answer = run::release(&mut warp);
+    state.copy_from_slice(&to_words(&warp));
+    code(answer)
+}
+
+fn opened(state: &[u32], kernel: &[u32], vector: &[u32], data: &[u8]) -> Result<Warp, Refusal> {
+    if state.len() != WORDS {
+        return Err(Refusal::Size);
+    }
+    run::test_runs(state[CODE_BASE_AT], state[DATA_BASE_AT], kernel, vector, data)?;
+    from_words(state)
+}

@@ -1,0 +1,894 @@
+//! The trace cards, every refusal, and the edges.
+
+use reference::isa::{decode, Insn, VOp, VSrc, ENDPRG, JOIN, V, X};
+use reference::state::{Fixed, Launch, Split, Warp};
+use reference::{card, code, print, run, saved, table};
+
+const CODE: u32 = 0x8000_0000;
+const DATA: u32 = 0x9000_0000;
+
+fn launch(numt: u32) -> Launch {
+    let mask = if numt == 32 { u32::MAX } else { (1 << numt) - 1 };
+    Launch {
+        fixed: Fixed { numt, numw: 1, mask, code_base: CODE, data_base: DATA, ..Fixed::default() },
+        entry: CODE,
+    }
+}
+
+/// A warp with its lent runs.
+struct Bench {
+    warp: Warp,
+    kernel: Vec<u32>,
+    vector: Vec<u32>,
+    data: Vec<u8>,
+}
+
+impl Bench {
+    fn new(numt: u32, kernel: &[u32], data: usize) -> Bench {
+        Bench::launched(&launch(numt), kernel, data)
+    }
+    fn launched(launch: &Launch, kernel: &[u32], data: usize) -> Bench {
+        let mut vector = vec![7; 1024];
+        let data = vec![0; data];
+        let (code, warp) = run::launch(launch, kernel, &mut vector, &data);
+        assert_eq!(code, 0);
+        assert!(vector.iter().all(|w| *w == 0));
+        Bench { warp, kernel: kernel.to_vec(), vector, data }
+    }
+    fn set_v(&mut self, r: usize, values: &[u32]) {
+        self.vector[r * 32..r * 32 + values.len()].copy_from_slice(values);
+    }
+    fn v(&self, r: usize, lane: usize) -> u32 {
+        self.vector[r * 32 + lane]
+    }
+    fn step(&mut self) -> u32 {
+        run::step(&mut self.warp, &self.kernel, &mut self.vector, &mut self.data)
+    }
+    fn run(&mut self, budget: u32) -> (u32, u32) {
+        run::run(&mut self.warp, &self.kernel, &mut self.vector, &mut self.data, budget)
+    }
+    /// A step that must be refused and must change nothing.
+    fn refused(&mut self, number: u32) {
+        let before = (self.warp.clone(), self.vector.clone(), self.data.clone());
+        assert_eq!(self.step(), number);
+        assert_eq!(before, (self.warp.clone(), self.vector.clone(), self.data.clone()));
+    }
+}
+
+// A very small assembler.
+
+fn variant(name: &str) -> u32 {
+    table::variants().iter().find(|v| v.name == name).unwrap_or_else(|| panic!("{name}")).fixed
+}
+fn r(name: &str, rd: u32, rs1: u32, rs2: u32) -> u32 {
+    variant(name) | rd << 7 | rs1 << 15 | rs2 << 20
+}
+fn i(name: &str, rd: u32, rs1: u32, imm: i32) -> u32 {
+    variant(name) | rd << 7 | rs1 << 15 | (imm as u32 & 0xfff) << 20
+}
+fn s(name: &str, rs1: u32, rs2: u32, imm: i32) -> u32 {
+    let imm = imm as u32;
+    variant(name) | rs1 << 15 | rs2 << 20 | (imm >> 5 & 0x7f) << 25 | (imm & 31) << 7
+}
+fn b(name: &str, rs1: u32, rs2: u32, off: i32) -> u32 {
+    let o = off as u32;
+    variant(name)
+        | rs1 << 15
+        | rs2 << 20
+        | (o >> 12 & 1) << 31
+        | (o >> 5 & 63) << 25
+        | (o >> 1 & 15) << 8
+        | (o >> 11 & 1) << 7
+}
+fn j(rd: u32, off: i32) -> u32 {
+    let o = off as u32;
+    0x6f | rd << 7
+        | (o >> 20 & 1) << 31
+        | (o >> 1 & 0x3ff) << 21
+        | (o >> 11 & 1) << 20
+        | (o >> 12 & 0xff) << 12
+}
+/// vd = op(vs2, src)
+fn v(name: &str, vd: u32, vs2: u32, src: u32) -> u32 {
+    variant(name) | vd << 7 | (src & 31) << 15 | vs2 << 20
+}
+
+#[test]
+fn p1_p2_codes() {
+    assert_eq!(JOIN, 0x0000_205b);
+    assert_eq!(ENDPRG, 0x0000_400b);
+    assert_eq!(decode(0x0000_205b), Some(Insn::Join));
+    assert_eq!(decode(0x0000_400b), Some(Insn::EndPrg));
+    assert_eq!(decode(0x0102_b05b), Some(Insn::SetRpc { rd: X::new(0), rs1: X::new(5), imm: 16 }));
+    assert_eq!(i("setrpc", 0, 5, 16), 0x0102_b05b);
+}
+
+/// Words as published assemblers write them.
+#[test]
+fn published_codes() {
+    let known: [(u32, &str); 20] = [
+        (0x0010_0093, "addi"),      // addi x1, x0, 1
+        (0x0000_0013, "addi"),      // nop
+        (0x4020_8133, "sub"),       // sub x2, x1, x2
+        (0x0220_8133, "mul"),       // mul x2, x1, x2
+        (0x4020_d093, "srai"),      // srai x1, x1, 2
+        (0x0000_8067, "jalr"),      // ret
+        (0xffdf_f06f, "jal"),       // j . - 4
+        (0x0ff0_000f, "fence"),     // fence
+        (0x0221_80d7, "vadd.vv"),   // vadd.vv v1, v2, v3
+        (0x0a21_80d7, "vsub.vv"),   // vsub.vv v1, v2, v3
+        (0x0e20_b0d7, "vrsub.vi"),  // vrsub.vi v1, v2, 1
+        (0x5e00_30d7, "vmv.vi"),    // vmv.v.i v1, 0
+        (0x5e05_40d7, "vmv.vx"),    // vmv.v.x v1, a0
+        (0x5e01_00d7, "vmv.vv"),    // vmv.v.v v1, v2
+        (0x4220_2557, "vmv.x.s"),   // vmv.x.s a0, v2
+        (0x4205_60d7, "vmv.s.x"),   // vmv.s.x v1, a0
+        (0x5208_a0d7, "vid.v"),     // vid.v v1
+        (0x9621_a0d7, "vmul.vv"),   // vmul.vv v1, v2, v3
+        (0x8621_a0d7, "vdiv.vv"),   // vdiv.vv v1, v2, v3
+        (0x6a20_c0d7, "vmsltu.vx"), // vmsltu.vx v1, v2, x1
+    ];
+    for (word, name) in known {
+        let insn = decode(word).unwrap_or_else(|| panic!("{word:08x}"));
+        assert_eq!(table::name(&insn), name, "{word:08x}");
+    }
+    assert_eq!(
+        decode(0x0a21_80d7),
+        Some(Insn::Vec { op: VOp::Sub, vd: V::new(1), vs2: V::new(2), src: VSrc::V(V::new(3)) })
+    );
+}
+
+#[test]
+fn table_and_decoder_agree() {
+    let variants = table::variants();
+    let mut x = 0x1234_5678u32;
+    let mut draw = || {
+        x ^= x << 13;
+        x ^= x >> 17;
+        x ^= x << 5;
+        x
+    };
+    let matching = |w: u32| {
+        let mut m = variants.iter().filter(|v| w & !v.free == v.fixed);
+        let first = m.next().map(|v| v.name.clone());
+        assert!(m.next().is_none(), "two variants match {w:08x}");
+        first
+    };
+    for v in &variants {
+        for _ in 0..200 {
+            let word = v.fixed | draw() & v.free;
+            assert_eq!(decode(word).map(|i| table::name(&i)).as_ref(), Some(&v.name));
+            for bit in 0..32 {
+                let near = word ^ 1 << bit;
+                assert_eq!(decode(near).map(|i| table::name(&i)), matching(near), "{near:08x}");
+            }
+        }
+    }
+    for _ in 0..200_000 {
+        let word = draw();
+        assert_eq!(decode(word).map(|i| table::name(&i)), matching(word), "{word:08x}");
+    }
+}
+
+/// All 2^32 words: as many are decoded as the table has. `--ignored`, release.
+#[test]
+#[ignore]
+fn decoder_counts_all_words() {
+    let by_table: u64 = table::variants().iter().map(|v| 1u64 << v.free.count_ones()).sum();
+    let by_decoder = (0..=u32::MAX).filter(|w| decode(*w).is_some()).count() as u64;
+    assert_eq!(by_table, by_decoder);
+}
+
+#[test]
+fn p3_to_p6_split_and_join() {
+    let mut kernel = vec![0x0000_0013; 16];
+    kernel[4] = 0x0020_885b;
+    kernel[12] = JOIN;
+    let mut bench = Bench::new(4, &kernel, 0);
+    bench.set_v(1, &[0, 1, 2, 3]);
+    bench.set_v(2, &[2; 32]);
+    bench.warp.pc = 0x8000_0010;
+    bench.warp.rpc = 0x8000_0030;
+    assert_eq!(bench.step(), 0);
+    assert_eq!((bench.warp.mask, bench.warp.pc, bench.warp.depth), (0xb, 0x8000_0014, 1));
+    let split =
+        Split { rpc: 0x8000_0030, full: 0xf, else_mask: 4, else_pc: 0x8000_0020, phase_two: false };
+    assert_eq!(bench.warp.splits[0], split);
+    bench.warp.pc = 0x8000_0030;
+    assert_eq!(bench.step(), 0);
+    assert_eq!((bench.warp.mask, bench.warp.pc, bench.warp.depth), (4, 0x8000_0020, 1));
+    bench.warp.pc = 0x8000_0030;
+    assert_eq!(bench.step(), 0);
+    assert_eq!((bench.warp.mask, bench.warp.pc, bench.warp.depth), (0xf, 0x8000_0030, 0));
+    assert_eq!(bench.warp.splits[0], Split::default());
+    assert_eq!(bench.step(), 0);
+    assert_eq!((bench.warp.mask, bench.warp.pc, bench.warp.depth), (0xf, 0x8000_0034, 0));
+}
+
+#[test]
+fn p7_signed_and_unsigned_branches() {
+    for (name, target) in [("vblt", CODE + 8), ("vbltu", CODE + 4)] {
+        let mut bench = Bench::new(4, &[b(name, 1, 2, 8)], 0);
+        bench.set_v(1, &[u32::MAX; 4]);
+        assert_eq!(bench.step(), 0);
+        assert_eq!((bench.warp.pc, bench.warp.depth, bench.warp.mask), (target, 0, 0xf));
+    }
+}
+
+#[test]
+fn p8_sum_wraps() {
+    let mut bench = Bench::new(1, &[r("add", 3, 1, 2), v("vadd.vi", 3, 1, 1)], 0);
+    bench.warp.x[1] = u32::MAX;
+    bench.warp.x[2] = 1;
+    bench.warp.x[3] = 9;
+    bench.set_v(1, &[u32::MAX]);
+    bench.set_v(3, &[9, 9]);
+    assert_eq!(bench.run(2), (0, 2));
+    assert_eq!((bench.warp.x[3], bench.v(3, 0), bench.v(3, 1)), (0, 0, 9));
+}
+
+#[test]
+fn p9_division_corners() {
+    let min = 0x8000_0000u32;
+    let cases = [
+        ("div", 7, 0, u32::MAX),
+        ("div", min, u32::MAX, min),
+        ("rem", 7, 0, 7),
+        ("rem", min, u32::MAX, 0),
+        ("rem", -7i32 as u32, 3, -1i32 as u32),
+        ("rem", 7, -3i32 as u32, 1),
+        ("div", -7i32 as u32, 3, -2i32 as u32),
+        ("divu", 7, 0, u32::MAX),
+        ("remu", 7, 0, 7),
+        ("divu", min, u32::MAX, 0),
+        ("remu", min, u32::MAX, min),
+    ];
+    for (name, a, d, result) in cases {
+        let vv = format!("v{name}.vv");
+        let vx = format!("v{name}.vx");
+        let kernel = [r(name, 3, 1, 2), v(&vv, 3, 1, 2), v(&vx, 4, 1, 2)];
+        let mut bench = Bench::new(1, &kernel, 0);
+        (bench.warp.x[1], bench.warp.x[2]) = (a, d);
+        bench.set_v(1, &[a]);
+        bench.set_v(2, &[d]);
+        assert_eq!(bench.run(3), (0, 3));
+        assert_eq!(
+            (bench.warp.x[3], bench.v(3, 0), bench.v(4, 0)),
+            (result, result, result),
+            "{name}"
+        );
+    }
+}
+
+#[test]
+fn operand_order_of_vector_operations() {
+    // vs2 = 20, src = 3 (or -1 where signs matter)
+    let cases: [(&str, u32, u32, u32); 14] = [
+        ("vsub.vx", 20, 3, 17),
+        ("vrsub.vx", 20, 3, -17i32 as u32),
+        ("vdivu.vx", 20, 3, 6),
+        ("vremu.vx", 20, 3, 2),
+        ("vsll.vx", 20, 33, 40),
+        ("vsrl.vx", 20, 34, 5),
+        ("vsra.vx", -20i32 as u32, 34, -5i32 as u32),
+        ("vmsltu.vx", 20, 3, 0),
+        ("vmsltu.vx", 3, 20, 1),
+        ("vmslt.vx", u32::MAX, 3, 1),
+        ("vmsgt.vx", u32::MAX, 3, 0),
+        ("vmsgtu.vx", u32::MAX, 3, 1),
+        ("vmulhsu.vx", u32::MAX, 2, u32::MAX),
+        ("vmulhsu.vx", 2, u32::MAX, 1),
+    ];
+    for (name, vs2, x, result) in cases {
+        let mut bench = Bench::new(2, &[v(name, 3, 2, 1)], 0);
+        bench.warp.x[1] = x;
+        bench.set_v(2, &[vs2, vs2]);
+        assert_eq!(bench.step(), 0);
+        assert_eq!(bench.v(3, 1), result, "{name}");
+    }
+    // Immediates are sign-extended, except for shifts.
+    let immediates: [(&str, u32, u32, u32); 5] = [
+        ("vadd.vi", 5, 31, 4),
+        ("vmsleu.vi", 0xffff_fffe, 31, 1),
+        ("vmsgtu.vi", 5, 31, 0),
+        ("vsrl.vi", 0x8000_0000, 31, 1),
+        ("vrsub.vi", 5, 30, -7i32 as u32),
+    ];
+    for (name, vs2, imm, result) in immediates {
+        let mut bench = Bench::new(1, &[v(name, 3, 2, imm)], 0);
+        bench.set_v(2, &[vs2]);
+        assert_eq!(bench.step(), 0);
+        assert_eq!(bench.v(3, 0), result, "{name}");
+    }
+}
+
+#[test]
+fn p10_store_with_one_lane_outside() {
+    let mut bench = Bench::new(4, &[s("vsw12", 1, 2, 0)], 16);
+    bench.set_v(1, &[DATA, DATA + 4, DATA + 8, DATA + 13]);
+    bench.set_v(2, &[0x0102_0304; 4]);
+    bench.refused(9);
+    assert!(bench.data.iter().all(|b| *b == 0));
+    bench.set_v(1, &[DATA, DATA + 4, DATA + 8, DATA + 12]);
+    assert_eq!(bench.step(), 0);
+    assert_eq!(&bench.data[12..], &[4, 3, 2, 1]);
+}
+
+#[test]
+fn p11_vmv_x_s() {
+    let mut bench = Bench::new(2, &[r("vmv.x.s", 3, 0, 1)], 0);
+    bench.set_v(1, &[5, 6, 9]);
+    bench.refused(10);
+    bench.set_v(1, &[5, 5, 9]);
+    assert_eq!(bench.step(), 0);
+    assert_eq!(bench.warp.x[3], 5);
+}
+
+#[test]
+fn p12_endprg_and_barrier_in_a_split() {
+    for word in [ENDPRG, 0x0400_400b, 0x0400_c00b] {
+        let mut bench = Bench::new(2, &[b("vbne", 1, 2, 8), word, word], 0);
+        bench.set_v(1, &[0, 1]);
+        assert_eq!(bench.step(), 0);
+        assert_eq!(bench.warp.depth, 1);
+        bench.refused(11);
+    }
+}
+
+#[test]
+fn ended_and_waiting() {
+    let mut bench = Bench::new(4, &[0x0400_400b, ENDPRG], 0);
+    assert_eq!(code(run::release(&mut bench.warp)), 12);
+    assert_eq!(bench.step(), 0);
+    assert_eq!((bench.warp.pc, bench.warp.waiting), (CODE + 4, true));
+    bench.refused(4);
+    assert_eq!(bench.run(0), (0, 0));
+    assert_eq!(code(run::release(&mut bench.warp)), 0);
+    assert_eq!(bench.run(9), (3, 1));
+    assert_eq!((bench.warp.pc, bench.warp.ended), (CODE + 4, true));
+    bench.refused(3);
+    assert_eq!(code(run::release(&mut bench.warp)), 12);
+}
+
+#[test]
+fn printout() {
+    let mut bench = Bench::new(4, &[ENDPRG], 0);
+    let (code, steps) = bench.run(65_536);
+    assert_eq!(
+        print::five_lines(code, steps, &bench.warp),
+        "code 3\nsteps 1\npc 80000000\nmask 0000000f\nsplits 0\n"
+    );
+}
+
+/// Lane l leaves the loop after l + 1 turns.
+fn trip_loop() -> Vec<u32> {
+    vec![
+        v("vid.v", 1, 0, 17),
+        i("auipc", 5, 0, 0),
+        i("setrpc", 0, 5, 20), // the JOIN
+        v("vadd.vi", 3, 3, 1), // loop
+        b("vblt", 1, 3, 8),
+        j(0, -8),
+        JOIN,
+        ENDPRG,
+    ]
+}
+
+#[test]
+fn trip_counts_1_to_32() {
+    let kernel = trip_loop();
+    for numt in 1..=32u32 {
+        let mut bench = Bench::new(numt, &kernel, 0);
+        let mut deepest = 0;
+        let mut steps = 0;
+        let code = loop {
+            let code = bench.step();
+            assert!(bench.warp.well_formed());
+            if code != 0 {
+                break code;
+            }
+            steps += 1;
+            deepest = deepest.max(bench.warp.depth);
+        };
+        assert_eq!(code, 3);
+        assert_eq!(deepest, numt - 1);
+        assert_eq!((bench.warp.mask, bench.warp.depth), (bench.warp.fixed.mask, 0));
+        for lane in 0..32 {
+            let turns = if lane < numt { lane + 1 } else { 0 };
+            assert_eq!(bench.v(3, lane as usize), turns);
+        }
+        let mut again = Bench::new(numt, &kernel, 0);
+        assert_eq!(again.run(u32::MAX), (3, steps));
+        assert_eq!(again.warp, bench.warp);
+    }
+}
+
+#[test]
+fn one_lane_never_splits() {
+    let kernel = trip_loop();
+    for lane in 0..32 {
+        let mut l = launch(32);
+        l.fixed.mask = 1 << lane;
+        let mut bench = Bench::launched(&l, &kernel, 0);
+        while bench.step() == 0 {
+            assert_eq!(bench.warp.depth, 0);
+        }
+        assert_eq!(bench.v(3, lane), lane as u32 + 1);
+    }
+}
+
+#[test]
+fn splits_sharing_an_rpc_all_close_on_one_join() {
+    let kernel = [
+        i("setrpc", 0, 5, 12),
+        b("vbeq", 1, 0, 8), // lane 0 goes to the JOIN
+        b("vbeq", 1, 2, 4), // lane 1 too
+        JOIN,
+        ENDPRG,
+    ];
+    let mut bench = Bench::new(4, &kernel, 0);
+    bench.warp.x[5] = CODE;
+    bench.set_v(1, &[0, 1, 2, 3]);
+    bench.set_v(2, &[1; 4]);
+    assert_eq!(bench.run(3), (0, 3));
+    assert_eq!((bench.warp.depth, bench.warp.mask), (2, 0xc));
+    assert_eq!(bench.run(4), (0, 4));
+    assert_eq!((bench.warp.depth, bench.warp.mask, bench.warp.pc), (0, 0xf, CODE + 12));
+    assert_eq!(bench.run(9), (3, 2));
+}
+
+#[test]
+fn pc_off_the_kernel() {
+    let nop = 0x13;
+    let mut bench = Bench::new(1, &[nop], 0);
+    assert_eq!(bench.step(), 0);
+    bench.refused(5);
+    bench.warp.pc = CODE - 4;
+    bench.refused(5);
+    // The kernel's end is the end of the space: the PC wraps to 0.
+    let mut l = launch(1);
+    l.fixed.code_base = 0xffff_fffc;
+    l.entry = 0xffff_fffc;
+    let mut bench = Bench::launched(&l, &[j(1, 0)], 0);
+    assert_eq!(bench.step(), 0);
+    assert_eq!((bench.warp.x[1], bench.warp.pc), (0, 0xffff_fffc));
+    bench.kernel[0] = nop;
+    assert_eq!(bench.step(), 0);
+    assert_eq!(bench.warp.pc, 0);
+    bench.refused(5);
+    // And from the start of the space backwards to its end.
+    let mut l = launch(1);
+    l.fixed.code_base = 0;
+    l.entry = 0;
+    let mut bench = Bench::launched(&l, &[j(0, -8)], 0);
+    assert_eq!(bench.step(), 0);
+    assert_eq!(bench.warp.pc, 0xffff_fff8);
+    bench.refused(5);
+    // An entry off the kernel launches and then has no word.
+    let mut l = launch(1);
+    l.entry = 4;
+    let mut bench = Bench::launched(&l, &[nop], 0);
+    bench.refused(5);
+}
+
+#[test]
+fn words_not_in_the_tables() {
+    let words = [
+        0x0000_0000,
+        0xffff_ffff,
+        0x0000_0073, // ecall
+        0x0010_0073, // ebreak
+        0x0000_100f, // fence.i
+        0x0000_20db, // JOIN with rd 1
+        0x0000_408b, // ENDPRG with rd 1
+        0x0000_c00b, // ENDPRG with rs1 1
+        0x0600_400b, // BARRIERSUB
+        0x0021_80d7, // vadd.vv, vm = 0
+        0x0001_7057, // vsetvli
+        0x4220_a557, // vmv.x.s with vs1 1
+        0x5e10_40d7, // vmv.v.x with vs2 1
+        0x8000_202b, // private load, bit 31
+        0x4000_9093, // slli with funct7 0x20
+        0x0000_3003, // ld
+    ];
+    for word in words {
+        let mut bench = Bench::new(2, &[word], 0);
+        bench.refused(6);
+    }
+}
+
+#[test]
+fn csr_rules() {
+    let mut l = launch(4);
+    (l.fixed.numw, l.fixed.wid) = (8, 3);
+    (l.fixed.knl, l.fixed.wgid, l.fixed.lds, l.fixed.pds) = (21, 22, 23, 24);
+    (l.fixed.gidx, l.fixed.gidy, l.fixed.gidz) = (25, 26, 27);
+    let expected = [12, 8, 4, 21, 22, 3, 23, 24, 25, 26, 27, 0, 0];
+    for (n, value) in expected.into_iter().enumerate() {
+        let csr = 0x800 + n as i32;
+        let mut bench = Bench::launched(&l, &[i("csrrs", 1, 0, csr), i("csrrci", 2, 0, csr)], 0);
+        (bench.warp.x[1], bench.warp.x[2]) = (9, 9);
+        assert_eq!(bench.run(2), (0, 2));
+        assert_eq!((bench.warp.x[1], bench.warp.x[2]), (value, value));
+        // A write, with rd = x0 or a zero operand too, only to PRINT and RPC.
+        for word in [
+            i("csrrw", 0, 0, csr),
+            i("csrrwi", 0, 0, csr),
+            i("csrrs", 1, 2, csr),
+            i("csrrc", 1, 2, csr),
+            i("csrrsi", 1, 1, csr),
+            i("csrrci", 1, 1, csr),
+        ] {
+            let mut bench = Bench::launched(&l, &[word], 0);
+            if n >= 11 {
+                assert_eq!(bench.step(), 0);
+            } else {
+                bench.refused(7);
+            }
+        }
+    }
+    for csr in [0x7ff, 0x80d, 0, 0xfff, 0xc00] {
+        Bench::launched(&l, &[i("csrrs", 1, 0, csr)], 0).refused(7);
+    }
+    let kernel = [
+        i("csrrw", 1, 1, 0x80c), // rd = rs1
+        i("csrrsi", 2, 5, 0x80b),
+        i("csrrci", 3, 4, 0x80b),
+    ];
+    let mut bench = Bench::launched(&l, &kernel, 0);
+    (bench.warp.x[1], bench.warp.rpc, bench.warp.print) = (100, 200, 0x10);
+    assert_eq!(bench.run(3), (0, 3));
+    assert_eq!((bench.warp.x[1], bench.warp.rpc), (200, 100));
+    assert_eq!((bench.warp.x[2], bench.warp.x[3], bench.warp.print), (0x10, 0x15, 0x11));
+}
+
+#[test]
+fn misaligned_targets() {
+    for word in
+        [j(1, 2), i("jalr", 1, 1, 2), i("jalr", 1, 1, 3), b("beq", 0, 0, 6), b("vbeq", 0, 0, -2)]
+    {
+        Bench::new(2, &[word], 0).refused(8);
+    }
+    // Not taken: nothing to refuse.
+    for word in [b("bne", 0, 0, 6), b("vbne", 0, 0, 6)] {
+        assert_eq!(Bench::new(2, &[word], 0).step(), 0);
+    }
+    // One lane is enough.
+    let mut bench = Bench::new(2, &[b("vbeq", 1, 0, 6)], 0);
+    bench.set_v(1, &[0, 1]);
+    bench.refused(8);
+    // JALR clears bit 0 first; the link is written after the source is read.
+    let mut bench = Bench::new(1, &[i("jalr", 1, 1, 1)], 0);
+    bench.warp.x[1] = CODE + 8;
+    assert_eq!(bench.step(), 0);
+    assert_eq!((bench.warp.pc, bench.warp.x[1]), (CODE + 8, CODE + 4));
+}
+
+#[test]
+fn data_end() {
+    for (name, size) in [("lb", 1), ("lbu", 1), ("lh", 2), ("lhu", 2), ("lw", 4)] {
+        let mut bench = Bench::new(1, &[i(name, 0, 1, 0)], 8);
+        bench.warp.x[1] = DATA + 8 - size + 1;
+        bench.refused(9);
+        bench.warp.x[1] = DATA - 1;
+        bench.refused(9);
+        bench.warp.x[1] = DATA + 8 - size;
+        assert_eq!(bench.step(), 0);
+    }
+    for (name, size) in [("sb", 1), ("sh", 2), ("sw", 4)] {
+        let mut bench = Bench::new(1, &[s(name, 1, 1, 0)], 8);
+        bench.warp.x[1] = DATA + 8 - size + 1;
+        bench.refused(9);
+        bench.warp.x[1] = DATA + 8 - size;
+        assert_eq!(bench.step(), 0);
+    }
+    // Data that ends with the space: no access goes round it.
+    let mut l = launch(1);
+    l.fixed.data_base = 0xffff_fff8;
+    let mut bench = Bench::launched(&l, &[i("lw", 2, 1, 0)], 8);
+    for address in [0xffff_fffd, 0xffff_ffff, 0] {
+        bench.warp.x[1] = address;
+        bench.refused(9);
+    }
+    bench.warp.x[1] = 0xffff_fffc;
+    assert_eq!(bench.step(), 0);
+    // No data at all.
+    Bench::new(1, &[i("lb", 2, 0, 0)], 0).refused(9);
+    // An inactive lane's address does not count.
+    let mut bench = Bench::new(1, &[i("vlw12", 2, 1, 0)], 8);
+    bench.set_v(1, &[DATA, 5]);
+    assert_eq!(bench.step(), 0);
+}
+
+#[test]
+fn loads_extend_and_stores_are_little_endian() {
+    let kernel = [
+        s("sw", 1, 2, 1),
+        i("lb", 3, 1, 1),
+        i("lbu", 4, 1, 1),
+        i("lh", 5, 1, 1),
+        i("lhu", 6, 1, 1),
+        i("lw", 7, 1, 1),
+        s("sh", 1, 2, 6),
+        s("sb", 1, 2, 5),
+    ];
+    let mut bench = Bench::new(1, &kernel, 8);
+    (bench.warp.x[1], bench.warp.x[2]) = (DATA, 0x8182_8384);
+    assert_eq!(bench.run(8), (0, 8));
+    assert_eq!(bench.data, [0, 0x84, 0x83, 0x82, 0x81, 0x84, 0x84, 0x83]);
+    assert_eq!(bench.warp.x[3..8], [0xffff_ff84, 0x84, 0xffff_8384, 0x8384, 0x8182_8384]);
+}
+
+#[test]
+fn the_highest_lane_wins() {
+    let mut bench = Bench::new(4, &[s("vsw12", 1, 2, 0)], 16);
+    bench.set_v(1, &[DATA + 3, DATA + 2, DATA + 4, DATA]);
+    bench.set_v(2, &[0x1111_1111, 0x2222_2222, 0x3333_3333, 0x4444_4444]);
+    assert_eq!(bench.step(), 0);
+    assert_eq!(&bench.data[..9], &[0x44, 0x44, 0x44, 0x44, 0x33, 0x33, 0x33, 0x33, 0]);
+}
+
+#[test]
+fn private_addresses() {
+    // offset -3 in 11 bits; store: bits 30 to 25 and 11 to 7
+    let off = -3i32 as u32 & 0x7ff;
+    let load = variant("vlb.p") | 4 << 7 | 1 << 15 | off << 20;
+    let store = variant("vsb.p") | (off & 31) << 7 | 1 << 15 | 2 << 20 | (off >> 5) << 25;
+    let mut l = launch(4);
+    (l.fixed.numw, l.fixed.wid, l.fixed.pds) = (3, 2, DATA + 5);
+    let mut bench = Bench::launched(&l, &[store, load], 64);
+    bench.set_v(1, &[3, 4, 5, 6]);
+    bench.set_v(2, &[0x81, 0x82, 0x83, 0x84]);
+    assert_eq!(bench.run(2), (0, 2));
+    for lane in 0..4 {
+        // (vs1 - 3) * 12 + 8 + lane + 5
+        assert_eq!(bench.data[lane * 12 + 13 + lane], 0x81 + lane as u8);
+        assert_eq!(bench.v(4, lane), 0xffff_ff81 + lane as u32);
+    }
+}
+
+#[test]
+fn setrpc_writes_both() {
+    let mut bench = Bench::new(1, &[i("setrpc", 5, 5, -1), i("setrpc", 0, 0, 7)], 0);
+    assert_eq!(bench.run(1), (0, 1));
+    assert_eq!((bench.warp.x[5], bench.warp.rpc), (u32::MAX, u32::MAX));
+    assert_eq!(bench.run(1), (0, 1));
+    assert_eq!((bench.warp.x[0], bench.warp.rpc), (0, 7));
+}
+
+#[test]
+fn x0_stays_zero() {
+    for word in [i("addi", 0, 0, 5), i("jalr", 0, 0, 0), variant("lui") | 1 << 12, j(0, 4)] {
+        let mut bench = Bench::new(1, &[word], 0);
+        assert_eq!(bench.step(), 0);
+        assert_eq!(bench.warp.x[0], 0);
+    }
+}
+
+#[test]
+fn run_sizes() {
+    let l = launch(4);
+    let nops = vec![0x13; 16_385];
+    let bytes = vec![0; 65_537];
+    let try_launch = |l: &Launch, kernel: usize, vector: usize, data: usize| {
+        let mut v = vec![5; vector];
+        let (code, warp) = run::launch(l, &nops[..kernel], &mut v, &bytes[..data]);
+        if code != 0 {
+            assert_eq!(warp, Warp::default());
+            assert!(v.iter().all(|w| *w == 5));
+        }
+        // A run over the same sizes is refused alike.
+        let mut warp = Warp::launched(l);
+        let before = warp.clone();
+        let mut d = bytes[..data].to_vec();
+        let answer = run::run(&mut warp, &nops[..kernel], &mut v, &mut d, 0);
+        if l.in_range() {
+            assert_eq!(answer, (code, 0));
+        }
+        assert_eq!(warp, before);
+        code
+    };
+    assert_eq!(try_launch(&l, 1, 1024, 0), 0);
+    assert_eq!(try_launch(&l, 16_384, 1024, 65_536), 0);
+    for (kernel, vector, data) in [
+        (0, 1024, 0),
+        (16_385, 1024, 0),
+        (1, 1023, 0),
+        (1, 1025, 0),
+        (1, 1056, 0),
+        (1, 0, 0),
+        (1, 1024, 65_537),
+    ] {
+        assert_eq!(try_launch(&l, kernel, vector, data), 1);
+    }
+    let with = |change: &dyn Fn(&mut Launch)| {
+        let mut l = l;
+        change(&mut l);
+        l
+    };
+    assert_eq!(try_launch(&with(&|l| l.fixed.code_base = 0xffff_fff8), 2, 1024, 0), 0);
+    assert_eq!(try_launch(&with(&|l| l.fixed.code_base = 0xffff_fff8), 3, 1024, 0), 1);
+    assert_eq!(try_launch(&with(&|l| l.fixed.data_base = 0xffff_ffff), 1, 1024, 1), 0);
+    assert_eq!(try_launch(&with(&|l| l.fixed.data_base = 0xffff_ffff), 1, 1024, 2), 1);
+    let bad: [&dyn Fn(&mut Launch); 9] = [
+        &|l| l.fixed.numt = 0,
+        &|l| l.fixed.numt = 33,
+        &|l| l.fixed.numw = 0,
+        &|l| l.fixed.numw = 33,
+        &|l| l.fixed.wid = 1,
+        &|l| l.fixed.mask = 0,
+        &|l| l.fixed.mask = 0x10,
+        &|l| l.fixed.code_base += 2,
+        &|l| l.entry += 1,
+    ];
+    for change in bad {
+        let l = with(change);
+        assert_eq!(try_launch(&l, 1, 1024, 0), 1);
+        assert_eq!(code(card::write(&l, &mut [0; 50])), 1);
+    }
+}
+
+/// A state with two open splits, the first in phase two.
+fn split_state() -> Warp {
+    let mut warp = Warp::launched(&launch(8));
+    warp.splits[0] = Split { rpc: 3, full: 0xff, else_mask: 0xf0, else_pc: CODE, phase_two: true };
+    warp.splits[1] =
+        Split { rpc: 9, full: 0xf0, else_mask: 0x30, else_pc: CODE + 4, phase_two: false };
+    warp.depth = 2;
+    warp.mask = 0xc0;
+    warp
+}
+
+#[test]
+fn well_formed_states() {
+    assert!(Warp::launched(&launch(8)).well_formed());
+    assert!(split_state().well_formed());
+    assert!(!Warp::default().well_formed());
+    let bad: [&dyn Fn(&mut Warp); 26] = [
+        &|w| w.fixed.numt = 0,
+        &|w| w.fixed.numt = 33,
+        &|w| w.fixed.numt = 7,
+        &|w| w.fixed.numw = 0,
+        &|w| w.fixed.numw = 33,
+        &|w| w.fixed.wid = 1,
+        &|w| w.fixed.mask = 0,
+        &|w| w.fixed.mask = 0x7f,
+        &|w| w.fixed.code_base += 2,
+        &|w| w.pc += 2,
+        &|w| w.x[0] = 1,
+        &|w| w.depth = 32,
+        &|w| w.depth = 1,
+        &|w| w.depth = 3,
+        &|w| w.splits[2].rpc = 1,
+        &|w| w.splits[30].phase_two = true,
+        &|w| (w.ended, w.waiting) = (true, true),
+        &|w| w.ended = true,
+        &|w| w.waiting = true,
+        &|w| w.splits[0].else_mask = 0,
+        &|w| w.splits[0].else_mask = 0xff,
+        &|w| w.splits[1].else_mask = 0x31,
+        &|w| w.splits[1].else_pc += 1,
+        &|w| w.splits[0].phase_two = false,
+        &|w| w.splits[1].phase_two = true,
+        &|w| w.mask = 0xf0,
+    ];
+    for (n, change) in bad.iter().enumerate() {
+        let mut warp = split_state();
+        change(&mut warp);
+        assert!(!warp.well_formed(), "{n}");
+        let before = warp.clone();
+        let mut vector = vec![0; 1024];
+        assert_eq!(run::run(&mut warp, &[0x13], &mut vector, &mut [], 0), (2, 0));
+        assert_eq!(run::run(&mut warp, &[0x13], &mut vector, &mut [], 5), (2, 0));
+        assert_eq!(run::run(&mut warp, &[], &mut vector, &mut [], 5), (1, 0));
+        assert_eq!(code(run::release(&mut warp)), 2);
+        assert_eq!(warp, before);
+    }
+}
+
+#[test]
+fn cards() {
+    let mut l = launch(7);
+    (l.fixed.numw, l.fixed.wid) = (32, 31);
+    (l.fixed.knl, l.fixed.wgid, l.fixed.lds, l.fixed.pds) = (1, 2, 3, 4);
+    (l.fixed.gidx, l.fixed.gidy, l.fixed.gidz) = (5, 6, 0x0102_0304);
+    let mut bytes = [0; 50];
+    assert_eq!(code(card::write(&l, &mut bytes)), 0);
+    assert_eq!(&bytes[..10], &[0, 48, 1, 7, 32, 31, 0, 0, 0, 0x7f]);
+    assert_eq!(&bytes[46..], &[1, 2, 3, 4]);
+    assert_eq!(card::read(&bytes), Ok(l));
+    let number = |bytes: &[u8]| code(card::read(bytes).map(|_| ()));
+    assert_eq!(number(&bytes[..49]), 13);
+    assert_eq!(number(&[]), 13);
+    assert_eq!(number(&[&bytes[..], &[0]].concat()), 13);
+    for (at, value, refusal) in [
+        (0, 1, 13),
+        (1, 49, 13),
+        (1, 50, 13),
+        (2, 0, 13),
+        (2, 2, 13),
+        (3, 0, 1),
+        (3, 33, 1),
+        (3, 6, 1), // the mask has bit 6
+        (4, 0, 1),
+        (4, 31, 1), // WID is 31
+        (4, 33, 1),
+        (5, 32, 1),
+        (9, 0, 1),
+        (9, 0x80, 1),
+        (13, 2, 1),
+        (21, 1, 1),
+        (17, 1, 0), // a data base is free
+    ] {
+        let mut bad = bytes;
+        bad[at] = value;
+        assert_eq!(number(&bad), refusal, "{at} {value}");
+        // Malformed comes before out of range.
+        bad[2] = 9;
+        assert_eq!(number(&bad), 13);
+    }
+    let mut short = [1; 49];
+    assert_eq!(code(card::write(&l, &mut short)), 1);
+    assert_eq!(short, [1; 49]);
+    assert_eq!(code(card::write(&l, &mut [0; 51])), 1);
+}
+
+#[test]
+fn saved_states() {
+    let mut warp = split_state();
+    warp.x[31] = 7;
+    (warp.rpc, warp.print) = (11, 12);
+    let words = saved::to_words(&warp);
+    assert_eq!(saved::from_words(&words), Ok(warp));
+    assert_eq!(words[31], 7);
+    assert_eq!(words[32..37], [3, 0xff, 0xf0, CODE, 1]);
+    assert_eq!(words[187..194], [2, CODE, 0xc0, 11, 12, 0, 0]);
+    assert_eq!(words[194..200], [8, 1, 0, 0xff, CODE, DATA]);
+    let mut vector = vec![0; 1024];
+    let mut number = |words: &[u32], kernel: &[u32]| {
+        let mut state = words.to_vec();
+        let answer = saved::run(&mut state, kernel, &mut vector, &mut [], 0);
+        assert_eq!(state, words);
+        answer
+    };
+    let nop = [0x13];
+    assert_eq!(number(&words, &nop), (0, 0));
+    assert_eq!(number(&words[..206], &nop), (1, 0));
+    assert_eq!(number(&[&words[..], &[0]].concat(), &nop), (1, 0));
+    for (at, value) in [
+        (36, 2),
+        (41, 7),
+        (186, 2),
+        (187, 32),
+        (187, u32::MAX),
+        (192, 2),
+        (193, 3),
+        (198, CODE + 1),
+    ] {
+        let mut bad = words;
+        bad[at] = value;
+        assert_eq!(number(&bad, &nop), (2, 0), "{at}");
+        assert_eq!(number(&bad, &[]), (1, 0), "{at}");
+        assert_eq!(saved::release(&mut bad), 2);
+    }
+    let mut waiting = saved::to_words(&Warp { waiting: true, ..Warp::launched(&launch(2)) });
+    assert_eq!(saved::release(&mut waiting), 0);
+    assert_eq!(waiting[193], 0);
+    assert_eq!(saved::release(&mut waiting), 12);
+    assert_eq!(saved::release(&mut [0; 206]), 1);
+}
+
+#[test]
+fn a_run_equals_its_steps() {
+    let kernel = trip_loop();
+    let mut stepped = Bench::new(9, &kernel, 0);
+    for n in 0..60 {
+        let mut whole = Bench::new(9, &kernel, 0);
+        let (code, steps) = whole.run(n);
+        if code == 0 {
+            assert_eq!(steps, n);
+        }
+        assert_eq!((&whole.warp, &whole.vector), (&stepped.warp, &stepped.vector));
+        stepped.step();
+    }
+}
