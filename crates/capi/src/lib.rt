@@ -1,0 +1,178 @@
+// The machine's calls for C and Rust, over numbers and slices: a warp is a state of 207 words.
+use isa::Instr;
+use machine::Refusal;
+use saved::STATE_WORDS;
+use warp::SPLITS;
+use warp::Warp;
+ghost use mathlib.Core.Path.{_≡_};
+ghost use lib.ListN.{length};
+ghost use Rattle.machine.specs.Answer.{refusalOf, numberOf};
+ghost use Rattle.card.specs.Card.{numberOf as cardNumberOf};
+ghost use Rattle.saved.specs.Saved.{stateWords, saving};
+ghost use Rattle.capi.specs.Handed.{handedOf};
+ghost use Rattle.capi.specs.Calls.{called, blankOf, launchCallOf, stepCallOf, runCalled, runCallOf, releaseCallOf, decodeCallOf};
+
+// ---- numbers of answers
+
+fn refusal_number(r: Refusal) -> u32
+    ensures { λ n. ⌜ n ≡ refusalOf r ⌝ }
+{
+    match r {
+        Refusal::Size => 1,
+        Refusal::Malformed => 2,
+        Refusal::Ended => 3,
+        Refusal::Waiting => 4,
+        Refusal::OffKernel => 5,
+        Refusal::Unknown => 6,
+        Refusal::BadCsr => 7,
+        Refusal::BadTarget => 8,
+        Refusal::Outside => 9,
+        Refusal::Differing => 10,
+        Refusal::SplitOpen => 11,
+        Refusal::NotWaiting => 12,
+    }
+}
+
+fn number(a: machine::Answer) -> u32
+    ensures { λ n. ⌜ n ≡ numberOf a ⌝ }
+{
+    match a {
+        machine::Answer::Done => 0,
+        machine::Answer::Refused(r) => refusal_number(r),
+    }
+}
+
+fn card_number(a: card::Answer) -> u32
+    ensures { λ n. ⌜ n ≡ cardNumberOf a ⌝ }
+{
+    match a {
+        card::Answer::Done => 0,
+        card::Answer::OutOfRange => 1,
+        card::Answer::Malformed => 13,
+    }
+}
+
+// ---- states
+
+// Words that stand for no warp are read as one with 32 splits open: no call takes it, and no saving writes it.
+fn handed(state: &[u32]) -> Warp
+    requires { ⌜ length (now state) ≡ stateWords ⌝ }
+    ensures { λ w. ⌜ w ≡ handedOf (now (state .entry)) ⌝ }
+{
+    let mut w = saved::read(state);
+    if !saved::sound(state) {
+        w.depth = SPLITS + 1;
+    }
+    w
+}
+
+// What a refused launch does to a state.
+fn blank(state: &mut [u32])
+    ensures { λ _. ⌜ now (state .exit) ≡ blankOf (now (state .entry)) ⌝ }
+{
+    let z = warp::zero_warp();
+    saved::save(z, state);
+}
+
+// ---- the calls
+
+#[no_mangle]
+pub extern "C" fn bench_launch(
+    card: &[u8],
+    kernel: &[u32],
+    vector: &mut [u32],
+    bytes: &[u8],
+    state: &mut [u32],
+) -> u32
+    ensures { λ r. ⌜ called r (now (state .exit)) (now (vector .exit)) (now (bytes .entry)) ≡ launchCallOf (now (card .entry)) (now (kernel .entry)) (now (vector .entry)) (now (bytes .entry)) (now (state .entry)) ⌝ }
+{
+    let read = card::read_card(card);
+    let a = read.answer;
+    let code = card_number(a);
+    if code != 0 {
+        blank(state);
+        return code;
+    }
+    if state.len() != STATE_WORDS {
+        return 1;
+    }
+    let l = read.launch;
+    let left = machine::launch(l, kernel, vector, bytes);
+    let b = left.answer;
+    let w = left.warp;
+    saved::save(w, state);
+    number(b)
+}
+
+#[no_mangle]
+pub extern "C" fn bench_step(
+    state: &mut [u32],
+    kernel: &[u32],
+    vector: &mut [u32],
+    bytes: &mut [u8],
+) -> u32
+    ensures { λ r. ⌜ called r (now (state .exit)) (now (vector .exit)) (now (bytes .exit)) ≡ stepCallOf (now (state .entry)) (now (kernel .entry)) (now (vector .entry)) (now (bytes .entry)) ⌝ }
+{
+    if state.len() != STATE_WORDS {
+        return 1;
+    }
+    let w = handed(state);
+    let left = machine::step(w, kernel, vector, bytes);
+    let a = left.answer;
+    let u = left.warp;
+    saved::save(u, state);
+    number(a)
+}
+
+#[no_mangle]
+pub extern "C" fn bench_run(
+    state: &mut [u32],
+    kernel: &[u32],
+    vector: &mut [u32],
+    bytes: &mut [u8],
+    budget: u32,
+    steps: &mut [u32],
+) -> u32
+    ensures { λ r. ⌜ runCalled (called r (now (state .exit)) (now (vector .exit)) (now (bytes .exit))) (now (steps .exit)) ≡ runCallOf (now (state .entry)) (now (kernel .entry)) budget (now (vector .entry)) (now (bytes .entry)) (now (steps .entry)) ⌝ }
+{
+    if steps.len() != 1 {
+        return 1;
+    }
+    if state.len() != STATE_WORDS {
+        steps[0] = 0;
+        return 1;
+    }
+    let w = handed(state);
+    let left = machine::run(w, kernel, vector, bytes, budget);
+    let a = left.answer;
+    let u = left.warp;
+    steps[0] = left.steps;
+    saved::save(u, state);
+    number(a)
+}
+
+#[no_mangle]
+pub extern "C" fn bench_release(state: &mut [u32]) -> u32
+    ensures { λ r. ⌜ saving r (now (state .exit)) ≡ releaseCallOf (now (state .entry)) ⌝ }
+{
+    if state.len() != STATE_WORDS {
+        return 1;
+    }
+    let w = handed(state);
+    let left = machine::release(w);
+    let a = left.answer;
+    let u = left.warp;
+    saved::save(u, state);
+    number(a)
+}
+
+#[no_mangle]
+pub extern "C" fn bench_decode(word: u32) -> u32
+    ensures { λ r. ⌜ r ≡ decodeCallOf word ⌝ }
+{
+    let i = decoder::decode(word);
+    match i {
+        Instr::Refused => 6,
+        _ => 0,
+    }
+}
