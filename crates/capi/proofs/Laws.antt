@@ -27,19 +27,11 @@ use Rattle.definition.proofs.Steps.{StepOk, step-ok}
 use Rattle.card.specs.declared.ReadCard.{ReadCard}
 use Rattle.card.specs.Card.{numberOf, reading, readingOf, readCardOf}
 use Rattle.saved.specs.Saved.{stateWords, warpIn, soundOf, Saving, saving, saveOf}
+use Rattle.saved.specs.Handed.{crowded, handedOf, handed-sound, handed-bad}
 use Rattle.saved.specs.SaveLaws.{warp-long, zero-words, save-size, save-deep, save-done, warp-deep, save-same}
-use Rattle.capi.specs.Handed.{crowded, handedOf}
 use Rattle.capi.specs.Calls.{Called, called, unless, blankOf, launchCallOf, stateTests, stepCallOf, runCalled, runCallOf, releaseCallOf, inTables, decodeCallOf}
 
 -- ---- states
-
-pub handed-sound : (s : List ℕ) → soundOf s ≡ true → handedOf s ≡ warpIn s
-unfolding handedOf
-handed-sound s p = rw p
-
-pub handed-bad : (s : List ℕ) → soundOf s ≡ false → handedOf s ≡ crowded (warpIn s)
-unfolding handedOf
-handed-bad s p = rw p
 
 crowded-bad : (w : Warp) → wellFormedOf (crowded w) ≡ false
 crowded-bad w = go (wellFormedOf (crowded w)) refl
@@ -69,11 +61,11 @@ module _ (s k v d : List ℕ) (l : length s ≡ stateWords) (f : Warp → Outcom
   by-cases : (b r : Bool) → soundOf s ≡ b → runsOkOf (warpIn s .fixed) (length k) (length v) (length d) ≡ r
       → leaving (f (handedOf s)) ≡ unless (first (stateTests s k v d)) (f (warpIn s)) s v d
   by-cases true true p q =
-      rw (handed-sound s p, l, p, q, ← save-done (f (warpIn s) .warp) s l (deep (warpIn s) (warp-long s) (warp-deep s l p)))
-  by-cases true false p q = rw (handed-sound s p, l, q, sizes (warpIn s) q, ← save-same s l p)
+      rw (handed-sound s l p, l, p, q, ← save-done (f (warpIn s) .warp) s l (deep (warpIn s) (warp-long s) (warp-deep s l p)))
+  by-cases true false p q = rw (handed-sound s l p, l, q, sizes (warpIn s) q, ← save-same s l p)
   by-cases false true p q =
-      rw (handed-bad s p, l, p, q, malformed (crowded (warpIn s)) q (crowded-bad (warpIn s)), ← save-deep (crowded (warpIn s)) s l (omega arith))
-  by-cases false false p q = rw (handed-bad s p, l, q, sizes (crowded (warpIn s)) q, ← save-deep (crowded (warpIn s)) s l (omega arith))
+      rw (handed-bad s l p, l, p, q, malformed (crowded (warpIn s)) q (crowded-bad (warpIn s)), ← save-deep (crowded (warpIn s)) s l (omega arith))
+  by-cases false false p q = rw (handed-bad s l p, l, q, sizes (crowded (warpIn s)) q, ← save-deep (crowded (warpIn s)) s l (omega arith))
 
   pub leaves : (n m : ℕ) (u w : Warp) (s' v' d' : List ℕ) → w ≡ handedOf s → outcome n u v' d' ≡ f w → saving m s' ≡ saveOf u s
       → called n s' v' d' ≡ unless (first (stateTests s k v d)) (f (warpIn s)) s v d
@@ -154,10 +146,10 @@ module _ (s k : List ℕ) (i : ℕ) (v d t : List ℕ) where
       -- a run refused before its first step counts 0
       count-is : (b r : Bool) → soundOf s ≡ b → runsOkOf (warpIn s .fixed) (length k) (length v) (length d) ≡ r
           → runOf k i (handedOf s) v d .steps ≡ cond (eqb (first (stateTests s k v d)) 0) (runOf k i (warpIn s) v d .steps) 0
-      count-is true true p q = rw (handed-sound s p, l, p, q)
-      count-is true false p q = rw (handed-sound s p, l, q, run-sizes k i (warpIn s) v d q)
-      count-is false true p q = rw (handed-bad s p, l, p, q, run-malformed k i (crowded (warpIn s)) v d q (crowded-bad (warpIn s)))
-      count-is false false p q = rw (handed-bad s p, l, q, run-sizes k i (crowded (warpIn s)) v d q)
+      count-is true true p q = rw (handed-sound s l p, l, p, q)
+      count-is true false p q = rw (handed-sound s l p, l, q, run-sizes k i (warpIn s) v d q)
+      count-is false true p q = rw (handed-bad s l p, l, p, q, run-malformed k i (crowded (warpIn s)) v d q (crowded-bad (warpIn s)))
+      count-is false false p q = rw (handed-bad s l p, l, q, run-sizes k i (crowded (warpIn s)) v d q)
 
       pub run-call : (c n m : ℕ) (u w : Warp) (s' v' d' : List ℕ) → w ≡ handedOf s → ran c (outcome n u v' d') ≡ runOf k i w v d → saving m s' ≡ saveOf u s
           → runCalled (called n s' v' d') (set t 0 c) ≡ runCallOf s k i v d t
@@ -195,8 +187,8 @@ module _ (s : List ℕ) where
     unfolding releaseCallOf
     release-cases true p =
         let deep : releaseOf (warpIn s) .warp .depth ≤ splitCount = rw (release-depth (warpIn s)) (warp-deep s l p) in
-        rw (handed-sound s p, l, p, ← save-done (releaseOf (warpIn s) .warp) s l deep)
-    release-cases false p = rw (handed-bad s p, l, p, release-malformed (crowded (warpIn s)) (crowded-bad (warpIn s)), ← save-deep (crowded (warpIn s)) s l (omega arith))
+        rw (handed-sound s l p, l, p, ← save-done (releaseOf (warpIn s) .warp) s l deep)
+    release-cases false p = rw (handed-bad s l p, l, p, release-malformed (crowded (warpIn s)) (crowded-bad (warpIn s)), ← save-deep (crowded (warpIn s)) s l (omega arith))
 
     pub release-call : (n m : ℕ) (u w : Warp) (s' : List ℕ) → w ≡ handedOf s → answer n u ≡ releaseOf w → saving m s' ≡ saveOf u s → saving n s' ≡ releaseCallOf s
     release-call n m u w s' ew ea es =

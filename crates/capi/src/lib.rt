@@ -2,14 +2,10 @@
 use isa::Instr;
 use machine::Refusal;
 use saved::STATE_WORDS;
-use warp::SPLITS;
-use warp::Warp;
 ghost use mathlib.Core.Path.{_≡_};
-ghost use lib.ListN.{length};
 ghost use Rattle.machine.specs.Answer.{refusalOf, numberOf};
 ghost use Rattle.card.specs.Card.{numberOf as cardNumberOf};
-ghost use Rattle.saved.specs.Saved.{stateWords, saving};
-ghost use Rattle.capi.specs.Handed.{handedOf};
+ghost use Rattle.saved.specs.Saved.{saving};
 ghost use Rattle.capi.specs.Calls.{called, blankOf, launchCallOf, stepCallOf, runCalled, runCallOf, releaseCallOf, decodeCallOf};
 
 // ---- numbers of answers
@@ -53,18 +49,6 @@ fn card_number(a: card::Answer) -> u32
 }
 
 // ---- states
-
-// Words that stand for no warp are read as one with 32 splits open: no call takes it, and no saving writes it.
-fn handed(state: &[u32]) -> Warp
-    requires { ⌜ length (now state) ≡ stateWords ⌝ }
-    ensures { λ w. ⌜ w ≡ handedOf (now (state .entry)) ⌝ }
-{
-    let mut w = saved::read(state);
-    if !saved::sound(state) {
-        w.depth = SPLITS + 1;
-    }
-    w
-}
 
 // What a refused launch does to a state.
 fn blank(state: &mut [u32])
@@ -116,7 +100,7 @@ pub extern "C" fn bench_step(
     if state.len() != STATE_WORDS {
         return 1;
     }
-    let w = handed(state);
+    let w = saved::handed(state);
     let left = machine::step(w, kernel, vector, bytes);
     let a = left.answer;
     let u = left.warp;
@@ -142,7 +126,7 @@ pub extern "C" fn bench_run(
         steps[0] = 0;
         return 1;
     }
-    let w = handed(state);
+    let w = saved::handed(state);
     let left = machine::run(w, kernel, vector, bytes, budget);
     let a = left.answer;
     let u = left.warp;
@@ -158,7 +142,7 @@ pub extern "C" fn bench_release(state: &mut [u32]) -> u32
     if state.len() != STATE_WORDS {
         return 1;
     }
-    let w = handed(state);
+    let w = saved::handed(state);
     let left = machine::release(w);
     let a = left.answer;
     let u = left.warp;

@@ -1,3 +1,4 @@
 pub mod Saved
+pub mod Handed
 pub mod RoundTrip
 pub mod SaveLaws

@@ -9,6 +9,7 @@ ghost use lib.ListN.{length, drop};
 ghost use lib.Seq.{sets, paste};
 ghost use Rattle.warp.specs.Warp.{scalarCount, splitCount, zeroWarp, answer};
 ghost use Rattle.saved.specs.Saved.{stateWords, splitWords, splitsWords, otherWords, warpIn, phasesOkOf, soundOf, numberOf, saving, saveOf, restoreOf};
+ghost use Rattle.saved.specs.Handed.{handedOf};
 
 pub const STATE_WORDS: usize = 207;
 
@@ -141,7 +142,7 @@ fn phases_ok(s: &[u32]) -> bool
 }
 
 // Flags and phases are 0 or 1, and at most 31 splits open.
-pub fn sound(s: &[u32]) -> bool
+fn sound(s: &[u32]) -> bool
     requires { ⌜ length (now s) ≡ stateWords ⌝ }
     ensures { λ r. ⌜ r ≡ soundOf (now (s .entry)) ⌝ }
 {
@@ -150,7 +151,7 @@ pub fn sound(s: &[u32]) -> bool
 }
 
 // The warp that the words stand for, sound or not.
-pub fn read(s: &[u32]) -> Warp
+fn read(s: &[u32]) -> Warp
     requires { ⌜ length (now s) ≡ stateWords ⌝ }
     ensures { λ w. ⌜ w ≡ warpIn (now (s .entry)) ⌝ }
 {
@@ -198,4 +199,20 @@ pub fn restore(state: &[u32]) -> Restored
         answer: Answer::Done,
         warp: w,
     }
+}
+
+// A state that stands for no warp is taken for one with 32 splits open: no call of the machine takes it, and no saving writes it.
+pub fn handed(state: &[u32]) -> Warp
+    ensures { λ w. ⌜ w ≡ handedOf (now (state .entry)) ⌝ }
+{
+    if state.len() != STATE_WORDS {
+        let mut z = warp::zero_warp();
+        z.depth = SPLITS + 1;
+        return z;
+    }
+    let mut w = read(state);
+    if !sound(state) {
+        w.depth = SPLITS + 1;
+    }
+    w
 }
