@@ -1,13 +1,17 @@
--- What a saving leaves, by cases.
+-- What a saving leaves, by cases; two results that a contract allows are equal.
 use Prim.Native.Nat.{ℕ, zero, suc, _≤_, _<_}
-use mathlib.Core.Path.{_≡_, refl, sym, _∙_, ap}
-use mathlib.Core.Bool.{true}
+use mathlib.Core.Path.{_≡_, refl, sym, _∙_, ap, ap₂}
+use mathlib.Core.Bool.{true, cond}
 use mathlib.Core.List.{List}
+use lib.Dec.{eqb}
 use lib.ListN.{length, drop, replicate}
 use borrow.Author.Tests.{ne-eqb, le-leb, lt-leb, leb-true}
 use Rattle.warp.specs.declared.Warp.{Warp}
-use Rattle.warp.specs.Warp.{scalarCount, splitCount, zeroWarp}
-use Rattle.saved.specs.Saved.{stateWords, splitsWords, otherWords, wordsOf, splitsOf, warpIn, soundOf, saving, saveOf}
+use Rattle.warp.specs.Warp.{scalarCount, splitCount, zeroWarp, Answer, answer}
+use Rattle.saved.specs.declared.Answer.{Answer as Number}
+use Rattle.saved.specs.declared.Answer.the-variants.{Done, Size, Malformed}
+use Rattle.saved.specs.declared.Restored.{Restored}
+use Rattle.saved.specs.Saved.{stateWords, splitsWords, otherWords, wordsOf, splitsOf, warpIn, soundOf, numberOf, Saving, saving, saveOf, restoreOf}
 use Rattle.saved.specs.RoundTrip.{sound-all, warp-words}
 
 splits-count : (n : ℕ) (s : List ℕ) → length (splitsOf n s) ≡ n
@@ -44,3 +48,27 @@ module _ (s : List ℕ) (l : length s ≡ stateWords) (ok : soundOf s ≡ true) 
 
   pub save-same : saving 0 s ≡ saveOf (warpIn s) s
   save-same = ap (saving 0) (sym (warp-words s l ok)) ∙ save-done (warpIn s) s l warp-deep
+
+-- ---- two results that a contract allows
+
+numbered : ℕ → Number
+numbered n = cond (eqb n 0) Done (cond (eqb n 1) Size Malformed)
+
+numbered-back : (a : Number) → numbered (numberOf a) ≡ a
+unfolding numbered
+numbered-back Done = refl
+numbered-back Size = refl
+numbered-back Malformed = refl
+
+number-one : (a b : Number) → numberOf a ≡ numberOf b → a ≡ b
+number-one a b e = sym (numbered-back a) ∙ ap numbered e ∙ numbered-back b
+
+pub save-determined : (w : Warp) (s : List ℕ) (a b : Number) (u v : List ℕ) → saving (numberOf a) u ≡ saveOf w s → saving (numberOf b) v ≡ saveOf w s → (a ≡ b) × (u ≡ v)
+save-determined w s a b u v p q =
+    let e : saving (numberOf a) u ≡ saving (numberOf b) v = p ∙ sym q in
+    (number-one a b (ap (λ (x : Saving). x .number) e), ap (λ (x : Saving). x .state) e)
+
+pub restore-determined : (s : List ℕ) (r t : Restored) → answer (numberOf (r .answer)) (r .warp) ≡ restoreOf s → answer (numberOf (t .answer)) (t .warp) ≡ restoreOf s → r ≡ t
+restore-determined s r t p q =
+    let e : answer (numberOf (r .answer)) (r .warp) ≡ answer (numberOf (t .answer)) (t .warp) = p ∙ sym q in
+    ap₂ (λ (a : Number) (w : Warp). record { answer = a; warp = w }) (number-one (r .answer) (t .answer) (ap (λ (x : Answer). x .code) e)) (ap (λ (x : Answer). x .warp) e)
