@@ -2,18 +2,15 @@
 use Prim.Native.Nat.{ℕ, zero, suc, _+_, _-_, _<_, _≤_}
 use mathlib.Core.Path.{_≡_, refl, sym, _∙_, subst, ap}
 use mathlib.Core.List.{List, [], _∷_, _++_, append-nil}
-use mathlib.Core.Bool.{Bool, true, false, not, _&&_}
+use mathlib.Core.Bool.{Bool, true, false, not, _&&_, cond}
 use native.Mathlib.Omega.{arith}
 use native.Mathlib.Nat.{add-zero, add-suc, suc-add, le-of-suc-le-suc, not-suc-le-zero}
 use lib.Dec.{T, eqb}
-use Rattle.word.specs.declared.Op.{Op}
 use Rattle.isa.specs.declared.Source.{Source}
-use Rattle.isa.specs.declared.Source.the-variants as From
 use Rattle.isa.specs.Table.{Row, seek}
-use Rattle.isa.specs.Vector.{VV-VX-VI}
+use Rattle.isa.specs.Vector.{Formed}
 use Rattle.isa.specs.Laws.{both}
-use Rattle.lookup.specs.declared.Found.the-variants as F
-use Rattle.lookup.specs.Found.{formedAs}
+use Rattle.lookup.specs.Found.{rowOf, rowAt, formedAs, formedAt, opIn}
 
 -- a test of each of the n numbers from lo on
 abbrev pub each : (ℕ → Bool) → ℕ → ℕ → Bool
@@ -57,7 +54,11 @@ within f other before part after lo n k q h₁ h₂ =
     let s = both (bare before k) (bare after k) t in
     sym (bare-seek f other k before (part ++ after) (s .0) ∙ bare-after f other k part after (s .1))
 
-pub every-form : (s : Source) (o : Op) → F.Is o ≡ formedAs s (VV-VX-VI o)
-every-form (From.V r) o = refl
-every-form (From.X r) o = refl
-every-form (From.I n) o = refl
+-- the op of the row that a table has is the op that the table has in that form
+pub op-in : (s : Source) (k : ℕ) (t : List (Row Formed)) → opIn s (rowAt k t) ≡ formedAt s k t
+op-in s k [] = refl
+op-in s k (r ∷ rs) = go (eqb k (r .code)) (op-in s k rs)
+  where
+    go : (b : Bool) → opIn s (rowAt k rs) ≡ formedAt s k rs → opIn s (cond b (rowOf (r .is)) (rowAt k rs)) ≡ cond b (formedAs s (r .is)) (formedAt s k rs)
+    go true e = refl
+    go false e = e

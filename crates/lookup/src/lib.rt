@@ -1,11 +1,13 @@
 // What each table of the instructions has at a code: one function a table, one arm a row.
 ghost use mathlib.Core.Path.{_≡_};
+ghost use mathlib.Core.Bool.{cond};
 ghost use Rattle.isa.specs.Scalar.{conditions, loads, stores, immediates, leftShifts, rightShifts};
 ghost use Rattle.isa.specs.Scalar.{base, multiplies, alternates, csrs, csrImmediates};
-ghost use Rattle.isa.specs.Vector.{VV-VX-VI, VV-VX, VX-VI, adds, extremes, logicals, laneShifts, compares, vectorTable};
+ghost use Rattle.isa.specs.Vector.{adds, extremes, logicals, laneShifts, compares, vectorTable};
 ghost use Rattle.isa.specs.Vector.{products, quotients, multiplyTable};
 ghost use Rattle.isa.specs.Ventus.{vstores};
-ghost use Rattle.lookup.specs.Found.{opAt, conditionAt, loadAt, storeAt, csrAt, formedAs, formedAt};
+ghost use Rattle.lookup.specs.declared.Found.the-variants.{Is, Nothing};
+ghost use Rattle.lookup.specs.Found.{opAt, conditionAt, loadAt, storeAt, csrAt, rowAt, formedAs, formedAt, opIn};
 use isa::CsrOp;
 use isa::LoadOp;
 use isa::Source;
@@ -174,139 +176,161 @@ pub fn csr_imm_op(funct3: u8) -> FoundCsr
     }
 }
 
-// The forms column of the vector table: the op, where its row has the form of the last operand.
-fn vv_vx_vi(src: Source, op: Op) -> Found
-    ensures { λ r. ⌜ r ≡ formedAs src (VV-VX-VI op) ⌝ }
-{
-    Found::Is(op)
+// The vector table: a row's op, and whether it has the forms VV, VX and VI.
+pub enum FoundRow {
+    Is(Op, bool, bool, bool),
+    Nothing,
 }
 
-fn vv_vx(src: Source, op: Op) -> Found
-    ensures { λ r. ⌜ r ≡ formedAs src (VV-VX op) ⌝ }
+fn add(funct6: u8) -> FoundRow
+    ensures { λ r. ⌜ r ≡ rowAt funct6 adds ⌝ }
+{
+    match funct6 {
+        0b000000 => FoundRow::Is(Op::Add, true, true, true),
+        0b000010 => FoundRow::Is(Op::Sub, true, true, false),
+        0b000011 => FoundRow::Is(Op::Rsub, false, true, true),
+        _ => FoundRow::Nothing,
+    }
+}
+
+fn extreme(funct6: u8) -> FoundRow
+    ensures { λ r. ⌜ r ≡ rowAt funct6 extremes ⌝ }
+{
+    match funct6 {
+        0b000100 => FoundRow::Is(Op::Minu, true, true, false),
+        0b000101 => FoundRow::Is(Op::Min, true, true, false),
+        0b000110 => FoundRow::Is(Op::Maxu, true, true, false),
+        0b000111 => FoundRow::Is(Op::Max, true, true, false),
+        _ => FoundRow::Nothing,
+    }
+}
+
+fn logical(funct6: u8) -> FoundRow
+    ensures { λ r. ⌜ r ≡ rowAt funct6 logicals ⌝ }
+{
+    match funct6 {
+        0b001001 => FoundRow::Is(Op::And, true, true, true),
+        0b001010 => FoundRow::Is(Op::Or, true, true, true),
+        0b001011 => FoundRow::Is(Op::Xor, true, true, true),
+        _ => FoundRow::Nothing,
+    }
+}
+
+fn lane_shift(funct6: u8) -> FoundRow
+    ensures { λ r. ⌜ r ≡ rowAt funct6 laneShifts ⌝ }
+{
+    match funct6 {
+        0b100101 => FoundRow::Is(Op::Sll, true, true, true),
+        0b101000 => FoundRow::Is(Op::Srl, true, true, true),
+        0b101001 => FoundRow::Is(Op::Sra, true, true, true),
+        _ => FoundRow::Nothing,
+    }
+}
+
+fn compare(funct6: u8) -> FoundRow
+    ensures { λ r. ⌜ r ≡ rowAt funct6 compares ⌝ }
+{
+    match funct6 {
+        0b011000 => FoundRow::Is(Op::Seq, true, true, true),
+        0b011001 => FoundRow::Is(Op::Sne, true, true, true),
+        0b011010 => FoundRow::Is(Op::Sltu, true, true, false),
+        0b011011 => FoundRow::Is(Op::Slt, true, true, false),
+        0b011100 => FoundRow::Is(Op::Sleu, true, true, true),
+        0b011101 => FoundRow::Is(Op::Sle, true, true, true),
+        0b011110 => FoundRow::Is(Op::Sgtu, false, true, true),
+        0b011111 => FoundRow::Is(Op::Sgt, false, true, true),
+        _ => FoundRow::Nothing,
+    }
+}
+
+fn plain_row(funct6: u8) -> FoundRow
+    ensures { λ r. ⌜ r ≡ rowAt funct6 vectorTable ⌝ }
+{
+    match funct6 {
+        0b000000..=0b000011 => add(funct6),
+        0b000100..=0b000111 => extreme(funct6),
+        0b001001..=0b001011 => logical(funct6),
+        0b011000..=0b011111 => compare(funct6),
+        0b100101..=0b101001 => lane_shift(funct6),
+        _ => FoundRow::Nothing,
+    }
+}
+
+fn product(funct6: u8) -> FoundRow
+    ensures { λ r. ⌜ r ≡ rowAt funct6 products ⌝ }
+{
+    match funct6 {
+        0b100100 => FoundRow::Is(Op::Mulhu, true, true, false),
+        0b100101 => FoundRow::Is(Op::Mul, true, true, false),
+        0b100110 => FoundRow::Is(Op::Mulhsu, true, true, false),
+        0b100111 => FoundRow::Is(Op::Mulh, true, true, false),
+        _ => FoundRow::Nothing,
+    }
+}
+
+fn quotient(funct6: u8) -> FoundRow
+    ensures { λ r. ⌜ r ≡ rowAt funct6 quotients ⌝ }
+{
+    match funct6 {
+        0b100000 => FoundRow::Is(Op::Divu, true, true, false),
+        0b100001 => FoundRow::Is(Op::Div, true, true, false),
+        0b100010 => FoundRow::Is(Op::Remu, true, true, false),
+        0b100011 => FoundRow::Is(Op::Rem, true, true, false),
+        _ => FoundRow::Nothing,
+    }
+}
+
+fn group_row(funct6: u8) -> FoundRow
+    ensures { λ r. ⌜ r ≡ rowAt funct6 multiplyTable ⌝ }
+{
+    match funct6 {
+        0b100000..=0b100011 => quotient(funct6),
+        0b100100..=0b100111 => product(funct6),
+        _ => FoundRow::Nothing,
+    }
+}
+
+fn when(has: bool, op: Op) -> Found
+    ensures { λ r. ⌜ r ≡ cond has (Is op) Nothing ⌝ }
+{
+    if has {
+        return Found::Is(op);
+    }
+    Found::Nothing
+}
+
+// The op, where it has the form of the last operand.
+fn formed(op: Op, vv: bool, vx: bool, vi: bool, src: Source) -> Found
+    ensures { λ r. ⌜ r ≡ formedAs src (record { op = op; vv = vv; vx = vx; vi = vi }) ⌝ }
 {
     match src {
-        Source::V(_) => Found::Is(op),
-        Source::X(_) => Found::Is(op),
-        Source::I(_) => Found::Nothing,
+        Source::V(_) => when(vv, op),
+        Source::X(_) => when(vx, op),
+        Source::I(_) => when(vi, op),
     }
 }
 
-fn vx_vi(src: Source, op: Op) -> Found
-    ensures { λ r. ⌜ r ≡ formedAs src (VX-VI op) ⌝ }
+fn op_in(row: FoundRow, src: Source) -> Found
+    ensures { λ r. ⌜ r ≡ opIn src row ⌝ }
 {
-    match src {
-        Source::V(_) => Found::Nothing,
-        Source::X(_) => Found::Is(op),
-        Source::I(_) => Found::Is(op),
-    }
-}
-
-fn add(funct6: u8, src: Source) -> Found
-    ensures { λ r. ⌜ r ≡ formedAt src funct6 adds ⌝ }
-{
-    match funct6 {
-        0b000000 => vv_vx_vi(src, Op::Add),
-        0b000010 => vv_vx(src, Op::Sub),
-        0b000011 => vx_vi(src, Op::Rsub),
-        _ => Found::Nothing,
-    }
-}
-
-fn extreme(funct6: u8, src: Source) -> Found
-    ensures { λ r. ⌜ r ≡ formedAt src funct6 extremes ⌝ }
-{
-    match funct6 {
-        0b000100 => vv_vx(src, Op::Minu),
-        0b000101 => vv_vx(src, Op::Min),
-        0b000110 => vv_vx(src, Op::Maxu),
-        0b000111 => vv_vx(src, Op::Max),
-        _ => Found::Nothing,
-    }
-}
-
-fn logical(funct6: u8, src: Source) -> Found
-    ensures { λ r. ⌜ r ≡ formedAt src funct6 logicals ⌝ }
-{
-    match funct6 {
-        0b001001 => vv_vx_vi(src, Op::And),
-        0b001010 => vv_vx_vi(src, Op::Or),
-        0b001011 => vv_vx_vi(src, Op::Xor),
-        _ => Found::Nothing,
-    }
-}
-
-fn lane_shift(funct6: u8, src: Source) -> Found
-    ensures { λ r. ⌜ r ≡ formedAt src funct6 laneShifts ⌝ }
-{
-    match funct6 {
-        0b100101 => vv_vx_vi(src, Op::Sll),
-        0b101000 => vv_vx_vi(src, Op::Srl),
-        0b101001 => vv_vx_vi(src, Op::Sra),
-        _ => Found::Nothing,
-    }
-}
-
-fn compare(funct6: u8, src: Source) -> Found
-    ensures { λ r. ⌜ r ≡ formedAt src funct6 compares ⌝ }
-{
-    match funct6 {
-        0b011000 => vv_vx_vi(src, Op::Seq),
-        0b011001 => vv_vx_vi(src, Op::Sne),
-        0b011010 => vv_vx(src, Op::Sltu),
-        0b011011 => vv_vx(src, Op::Slt),
-        0b011100 => vv_vx_vi(src, Op::Sleu),
-        0b011101 => vv_vx_vi(src, Op::Sle),
-        0b011110 => vx_vi(src, Op::Sgtu),
-        0b011111 => vx_vi(src, Op::Sgt),
-        _ => Found::Nothing,
+    match row {
+        FoundRow::Is(op, vv, vx, vi) => formed(op, vv, vx, vi, src),
+        FoundRow::Nothing => Found::Nothing,
     }
 }
 
 pub fn plain_op(funct6: u8, src: Source) -> Found
     ensures { λ r. ⌜ r ≡ formedAt src funct6 vectorTable ⌝ }
 {
-    match funct6 {
-        0b000000..=0b000011 => add(funct6, src),
-        0b000100..=0b000111 => extreme(funct6, src),
-        0b001001..=0b001011 => logical(funct6, src),
-        0b011000..=0b011111 => compare(funct6, src),
-        0b100101..=0b101001 => lane_shift(funct6, src),
-        _ => Found::Nothing,
-    }
-}
-
-fn product(funct6: u8, src: Source) -> Found
-    ensures { λ r. ⌜ r ≡ formedAt src funct6 products ⌝ }
-{
-    match funct6 {
-        0b100100 => vv_vx(src, Op::Mulhu),
-        0b100101 => vv_vx(src, Op::Mul),
-        0b100110 => vv_vx(src, Op::Mulhsu),
-        0b100111 => vv_vx(src, Op::Mulh),
-        _ => Found::Nothing,
-    }
-}
-
-fn quotient(funct6: u8, src: Source) -> Found
-    ensures { λ r. ⌜ r ≡ formedAt src funct6 quotients ⌝ }
-{
-    match funct6 {
-        0b100000 => vv_vx(src, Op::Divu),
-        0b100001 => vv_vx(src, Op::Div),
-        0b100010 => vv_vx(src, Op::Remu),
-        0b100011 => vv_vx(src, Op::Rem),
-        _ => Found::Nothing,
-    }
+    let row = plain_row(funct6);
+    op_in(row, src)
 }
 
 pub fn group_op(funct6: u8, src: Source) -> Found
     ensures { λ r. ⌜ r ≡ formedAt src funct6 multiplyTable ⌝ }
 {
-    match funct6 {
-        0b100000..=0b100011 => quotient(funct6, src),
-        0b100100..=0b100111 => product(funct6, src),
-        _ => Found::Nothing,
-    }
+    let row = group_row(funct6);
+    op_in(row, src)
 }
 
 pub fn vstore_op(funct3: u8) -> FoundStore

