@@ -1,52 +1,9 @@
 // The machine's calls for C and Rust, over numbers and slices: a warp is a state of 207 words.
 use isa::Instr;
-use machine::Refusal;
 use saved::STATE_WORDS;
 ghost use mathlib.Core.Path.{_≡_};
-ghost use Rattle.machine.specs.Answer.{refusalOf, numberOf};
-ghost use Rattle.card.specs.Card.{numberOf as cardNumberOf};
 ghost use Rattle.saved.specs.Saved.{saving};
 ghost use Rattle.capi.specs.Calls.{called, blankOf, launchCallOf, stepCallOf, runCalled, runCallOf, releaseCallOf, decodeCallOf};
-
-// ---- numbers of answers
-
-fn refusal_number(r: Refusal) -> u32
-    ensures { λ n. ⌜ n ≡ refusalOf r ⌝ }
-{
-    match r {
-        Refusal::Size => 1,
-        Refusal::Malformed => 2,
-        Refusal::Ended => 3,
-        Refusal::Waiting => 4,
-        Refusal::OffKernel => 5,
-        Refusal::Unknown => 6,
-        Refusal::BadCsr => 7,
-        Refusal::BadTarget => 8,
-        Refusal::Outside => 9,
-        Refusal::Differing => 10,
-        Refusal::SplitOpen => 11,
-        Refusal::NotWaiting => 12,
-    }
-}
-
-fn number(a: machine::Answer) -> u32
-    ensures { λ n. ⌜ n ≡ numberOf a ⌝ }
-{
-    match a {
-        machine::Answer::Done => 0,
-        machine::Answer::Refused(r) => refusal_number(r),
-    }
-}
-
-fn card_number(a: card::Answer) -> u32
-    ensures { λ n. ⌜ n ≡ cardNumberOf a ⌝ }
-{
-    match a {
-        card::Answer::Done => 0,
-        card::Answer::OutOfRange => 1,
-        card::Answer::Malformed => 13,
-    }
-}
 
 // ---- states
 
@@ -72,7 +29,7 @@ pub extern "C" fn bench_launch(
 {
     let read = card::read_card(card);
     let a = read.answer;
-    let code = card_number(a);
+    let code = card::card_number(a);
     if code != 0 {
         blank(state);
         return code;
@@ -85,7 +42,7 @@ pub extern "C" fn bench_launch(
     let b = left.answer;
     let w = left.warp;
     saved::save(w, state);
-    number(b)
+    machine::number(b)
 }
 
 #[no_mangle]
@@ -105,7 +62,7 @@ pub extern "C" fn bench_step(
     let a = left.answer;
     let u = left.warp;
     saved::save(u, state);
-    number(a)
+    machine::number(a)
 }
 
 #[no_mangle]
@@ -132,7 +89,7 @@ pub extern "C" fn bench_run(
     let u = left.warp;
     steps[0] = left.steps;
     saved::save(u, state);
-    number(a)
+    machine::number(a)
 }
 
 #[no_mangle]
@@ -147,7 +104,7 @@ pub extern "C" fn bench_release(state: &mut [u32]) -> u32
     let a = left.answer;
     let u = left.warp;
     saved::save(u, state);
-    number(a)
+    machine::number(a)
 }
 
 #[no_mangle]

@@ -31,6 +31,16 @@ pub struct ReadCard {
     pub launch: Launch,
 }
 
+pub fn card_number(a: Answer) -> u32
+    ensures { λ n. ⌜ n ≡ numberOf a ⌝ }
+{
+    match a {
+        Answer::Done => 0,
+        Answer::OutOfRange => 1,
+        Answer::Malformed => 13,
+    }
+}
+
 fn wide(x: u8) -> u32
     ensures { λ r. ⌜ (r ≡ x) × (r < 256) ⌝ }
 {

@@ -55,6 +55,36 @@ pub struct Ran {
     pub warp: Warp,
 }
 
+// ---- an answer's number
+
+fn refusal_number(r: Refusal) -> u32
+    ensures { λ n. ⌜ n ≡ refusalOf r ⌝ }
+{
+    match r {
+        Refusal::Size => 1,
+        Refusal::Malformed => 2,
+        Refusal::Ended => 3,
+        Refusal::Waiting => 4,
+        Refusal::OffKernel => 5,
+        Refusal::Unknown => 6,
+        Refusal::BadCsr => 7,
+        Refusal::BadTarget => 8,
+        Refusal::Outside => 9,
+        Refusal::Differing => 10,
+        Refusal::SplitOpen => 11,
+        Refusal::NotWaiting => 12,
+    }
+}
+
+pub fn number(a: Answer) -> u32
+    ensures { λ n. ⌜ n ≡ numberOf a ⌝ }
+{
+    match a {
+        Answer::Done => 0,
+        Answer::Refused(r) => refusal_number(r),
+    }
+}
+
 fn answer_of(code: u32) -> Answer
     requires { ⌜ code ≤ 11 ⌝ }
     ensures { λ r. ⌜ numberOf r ≡ code ⌝ }

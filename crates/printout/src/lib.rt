@@ -1,6 +1,4 @@
 // The bench program's work: three files' bytes in, the printout's bytes out.
-use machine::Answer;
-use machine::Refusal;
 use warp::Launch;
 ghost use mathlib.Core.Path.{_≡_};
 ghost use Prim.Native.Nat.{_+_, _/_, _<_, _≤_};
@@ -8,9 +6,7 @@ ghost use mathlib.Core.List.{[], _∷_};
 ghost use lib.ListN.{length, take};
 ghost use Rattle.io.specs.Counts.{Counts};
 ghost use Rattle.memory.specs.Bytes.{leAt};
-ghost use Rattle.card.specs.Card.{numberOf as Card·numberOf};
 ghost use Rattle.definition.specs.Step.{kernelLimit};
-ghost use Rattle.machine.specs.Answer.{refusalOf, numberOf};
 ghost use Rattle.printout.specs.Text.{digitOf, hexDigits, hexOf, decimalOf, lineOf};
 ghost use Rattle.printout.specs.Puts.{Puts, roomNeeded};
 ghost use Rattle.printout.specs.Printout.{codeLine, fiveLines, wordsOf, kernelLines, printoutOf};
@@ -86,14 +82,14 @@ fn put_hex_line(out: &mut [u8], at: usize, name: &[u8], n: u32) -> usize
 
 // ---- the printout, from the start of `out`
 
-fn put_code_line(out: &mut [u8], code: u64) -> usize
+fn put_code_line(out: &mut [u8], code: u32) -> usize
     requires { ⌜ roomNeeded ≤ length (now out) ⌝ }
     ensures { λ r. ⌜ Puts (now (out .entry)) 0 (codeLine code) (now (out .exit)) r × (r ≤ 26) ⌝ }
 {
-    put_decimal_line(out, 0, b"code ", code)
+    put_decimal_line(out, 0, b"code ", code as u64)
 }
 
-fn put_five_lines(out: &mut [u8], code: u64, steps: u64, pc: u32, mask: u32, splits: u64) -> usize
+fn put_five_lines(out: &mut [u8], code: u32, steps: u64, pc: u32, mask: u32, splits: u64) -> usize
     requires { ⌜ roomNeeded ≤ length (now out) ⌝ }
     ensures { λ r. ⌜ Puts (now (out .entry)) 0 (fiveLines code steps pc mask splits) (now (out .exit)) r × (r ≤ roomNeeded) ⌝ }
 {
@@ -142,44 +138,6 @@ const KERNEL_LIMIT: usize = 16384;
 
 const BUDGET: u32 = 65536;
 
-fn card_number(a: card::Answer) -> u64
-    ensures { λ r. ⌜ r ≡ Card·numberOf a ⌝ }
-{
-    match a {
-        card::Answer::Done => 0,
-        card::Answer::OutOfRange => 1,
-        card::Answer::Malformed => 13,
-    }
-}
-
-fn refusal_number(r: Refusal) -> u64
-    ensures { λ n. ⌜ n ≡ refusalOf r ⌝ }
-{
-    match r {
-        Refusal::Size => 1,
-        Refusal::Malformed => 2,
-        Refusal::Ended => 3,
-        Refusal::Waiting => 4,
-        Refusal::OffKernel => 5,
-        Refusal::Unknown => 6,
-        Refusal::BadCsr => 7,
-        Refusal::BadTarget => 8,
-        Refusal::Outside => 9,
-        Refusal::Differing => 10,
-        Refusal::SplitOpen => 11,
-        Refusal::NotWaiting => 12,
-    }
-}
-
-fn number(a: Answer) -> u64
-    ensures { λ r. ⌜ r ≡ numberOf a ⌝ }
-{
-    match a {
-        Answer::Done => 0,
-        Answer::Refused(r) => refusal_number(r),
-    }
-}
-
 // The printout of a launch and a run, the kernel in words.
 fn print_kernel(
     l: Launch,
@@ -193,7 +151,7 @@ fn print_kernel(
 {
     let left = machine::launch(l, kernel, vector, bytes);
     let a = left.answer;
-    let code = number(a);
+    let code = machine::number(a);
     if code != 0 {
         return put_code_line(out, code);
     }
@@ -203,7 +161,7 @@ fn print_kernel(
     let u = ran.warp;
     put_five_lines(
         out,
-        number(b),
+        machine::number(b),
         ran.steps as u64,
         u.pc,
         u.mask,
@@ -225,7 +183,7 @@ pub fn print_files(
 {
     let read = card::read_card(card);
     let a = read.answer;
-    let code = card_number(a);
+    let code = card::card_number(a);
     if code != 0 {
         return put_code_line(out, code);
     }
