@@ -257,4 +257,5 @@ def main():
     print(len(ws), 'words', sorted(kinds.items()))
 
 
-main()
+if __name__ == '__main__':
+    main()

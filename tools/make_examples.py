@@ -2,91 +2,51 @@
 """Makes the example folders examples/NAME and the case folders crates/bench_cases/data/NAME, each with
 card.bin, kernel.bin, data.bin and expected.txt, and the stdout of crates/bench and crates/bench_cases.
 
-The kernels are put together by the few functions below. The expected printout is made by the plain
+The kernels are written as text and encoded by tools/case_files.py. The expected printout is made by the plain
 Rust reference, never by the bench program: usage: tools/make_examples.py REFERENCE_PROGRAM
 """
-import os, shutil, struct, subprocess, sys
+import functools, os, shutil, subprocess, sys
 
-ROOT = os.path.dirname(os.path.dirname(os.path.abspath(__file__)))
+import case_files
+from case_files import ROOT, packed, words_of
+
 CODE, DATA = 0x80000000, 0x10000000
-
-# ---- words
-
-JOIN, ENDPRG = 0x0000205B, 0x0000400B
+card = functools.partial(case_files.card, code=CODE, data=DATA)
 
 
-def i_type(opcode, f3, rd, rs1, imm):
-    return (imm & 0xFFF) << 20 | rs1 << 15 | f3 << 12 | rd << 7 | opcode
+def kernel(*texts):
+    return packed(words_of(texts), '<')
 
 
-def s_type(opcode, f3, rs1, rs2, imm):
-    return (imm >> 5 & 0x7F) << 25 | rs2 << 20 | rs1 << 15 | f3 << 12 | (imm & 0x1F) << 7 | opcode
-
-
-def b_type(opcode, f3, rs1, rs2, off):
-    return (off >> 12 & 1) << 31 | (off >> 5 & 0x3F) << 25 | rs2 << 20 | rs1 << 15 | f3 << 12 | (off >> 1 & 0xF) << 8 | (off >> 11 & 1) << 7 | opcode
-
-
-def vector(f6, f3, vd, vs2, last):
-    return f6 << 26 | 1 << 25 | vs2 << 20 | (last & 0x1F) << 15 | f3 << 12 | vd << 7 | 0b1010111
-
-
-def lui(rd, upper): return upper << 12 | rd << 7 | 0b0110111
-def auipc(rd, upper): return upper << 12 | rd << 7 | 0b0010111
-def addi(rd, rs1, imm): return i_type(0b0010011, 0, rd, rs1, imm)
-def jump(off): return (off >> 20 & 1) << 31 | (off >> 1 & 0x3FF) << 21 | (off >> 11 & 1) << 20 | (off >> 12 & 0xFF) << 12 | 0b1101111
-def setrpc(rd, rs1, imm): return i_type(0b1011011, 3, rd, rs1, imm)
-def vblt(vs1, vs2, off): return b_type(0b1011011, 4, vs1, vs2, off)
-def vid(vd): return vector(0b010100, 2, vd, 0, 0b10001)
-def vmv_i(vd, imm): return vector(0b010111, 3, vd, 0, imm)
-def vmv_x(vd, rs1): return vector(0b010111, 4, vd, 0, rs1)
-def vadd_i(vd, vs2, imm): return vector(0b000000, 3, vd, vs2, imm)
-def vadd_x(vd, vs2, rs1): return vector(0b000000, 4, vd, vs2, rs1)
-def vsll_i(vd, vs2, imm): return vector(0b100101, 3, vd, vs2, imm)
-def vsw12(vs1, vs2, off): return s_type(0b1111011, 6, vs1, vs2, off)
-
-
-# ---- files
-
-def card(numt=4, mask=None, entry=CODE, length=48, version=1):
-    mask = (1 << numt) - 1 if mask is None else mask
-    words = [mask, CODE, DATA, entry, 0, 0, 0, 0, 0, 0, 0]
-    return struct.pack('>HBBBB11I', length, version, numt, 1, 0, *words)
-
-
-def kernel(*words):
-    return struct.pack('<%dI' % len(words), *words)
-
-
-END = kernel(ENDPRG)
+END = kernel('endprg')
 
 # lanes whose number is above 2 leave for the else part: a split, both parts, and the JOIN that ends both
 SPLIT = kernel(
-    vid(1), vmv_i(2, 2),
-    auipc(5, 0), setrpc(0, 5, 20),          # RPC is the JOIN, 20 bytes after the AUIPC
-    vblt(2, 1, 8),                          # 2 < lane: to the word after the next
-    vadd_i(3, 1, 5),                        # the others alone
-    vadd_i(4, 1, 1),
-    JOIN, ENDPRG)
+    'vid.v v1', 'vmv.v.i v2,2',
+    'auipc x5,0', 'setrpc x0,x5,20',        # RPC is the JOIN, 20 bytes after the AUIPC
+    'vblt v2,v1,8',                         # 2 < lane: to the word after the next
+    'vadd.vi v3,v1,5',                      # the others alone
+    'vadd.vi v4,v1,1',
+    'join', 'endprg')
 
 # lane l goes round l + 1 times: each turn one lane leaves, and 31 splits are open before the last one does
 LOOP31 = kernel(
-    vid(1),
-    auipc(5, 0), setrpc(0, 5, 24),          # RPC is the JOIN
-    vmv_i(2, 0),
-    vadd_i(2, 2, 1),                        # one turn more
-    vblt(1, 2, 8),                          # lane < turns: out, to the JOIN
-    jump(-8),
-    JOIN, ENDPRG)
+    'vid.v v1',
+    'auipc x5,0', 'setrpc x0,x5,24',        # RPC is the JOIN
+    'vmv.v.i v2,0',
+    'vadd.vi v2,v2,1',                      # one turn more
+    'vblt v1,v2,8',                         # lane < turns: out, to the JOIN
+    'jal x0,-8',
+    'join', 'endprg')
 
 # the same loop with ENDPRG where the JOIN stood
 OPEN31 = LOOP31[:-8] + END
 
 STORE = kernel(
-    vid(1), vsll_i(2, 1, 2),
-    lui(5, DATA >> 12), vadd_x(2, 2, 5),
-    vadd_i(3, 1, 10), vsw12(2, 3, 0),       # word l of data memory becomes 10 + l
-    ENDPRG)
+    'vid.v v1', 'vsll.vi v2,v1,2',
+    'lui x5,0x%x' % (DATA >> 12), 'vadd.vx v2,v2,x5',
+    'vadd.vi v3,v1,10', 'vsw12 v3,0(v2)',   # word l of data memory becomes 10 + l
+    'endprg')
 
 EXAMPLES = {
     # name: card, kernel, data; None: no such file
@@ -116,7 +76,7 @@ CASES = {
     'odd-kernel': (card(), END + b'\0\0\0', None),
     'full-kernel': (card(entry=CODE + 4 * 16383), END * 16384, None),
     'long-kernel': (card(), END * 16385, None),
-    'unknown-word': (card(), kernel(0), None),
+    'unknown-word': (card(), bytes(4), None),
     'full-data': (card(), END, bytes(65536)),
     'large-data': (card(), END, bytes(65537)),
     'larger-data': (card(), END, bytes(70000)),

@@ -31,9 +31,23 @@ pub struct Vector {
     pub mask: u32,
 }
 
+/// What the last field of the answer to a launch shows.
+#[derive(Clone, Copy, Debug, PartialEq, Eq)]
+pub enum Shown {
+    /// The digest of state, vector file and data.
+    All,
+    /// Register x3: a program that checks itself leaves its verdict there.
+    X3,
+    /// The digest of the data alone.
+    Data,
+}
+
+/// The kinds of a launch by what they show.
+const LAUNCH_KINDS: [(u8, Shown); 3] = [(1, Shown::All), (6, Shown::X3), (7, Shown::Data)];
+
 #[derive(Clone, Debug, PartialEq, Eq)]
 pub enum Case {
-    Launch { card: Vec<u8>, kernel: Kernel, data: Data, vector: Vector, budget: u32 },
+    Launch { card: Vec<u8>, kernel: Kernel, data: Data, vector: Vector, budget: u32, shown: Shown },
     State { state: Vec<u32>, kernel: Kernel, data: Data, vector: Vector, budget: u32 },
     CardRead { card: Vec<u8> },
     Release { state: Vec<u32> },
@@ -48,14 +62,15 @@ pub struct Answer {
     pub pc: u32,
     pub mask: u32,
     pub splits: u32,
-    pub digest: u32,
+    /// Mostly a digest; see `Shown`.
+    pub last: u32,
 }
 
 impl Answer {
     pub fn line(&self, number: usize) -> String {
         format!(
             "{number} {} {} {:08x} {:08x} {} {:08x}\n",
-            self.code, self.steps, self.pc, self.mask, self.splits, self.digest
+            self.code, self.steps, self.pc, self.mask, self.splits, self.last
         )
     }
 }
@@ -170,7 +185,7 @@ pub fn launch_of(w: &[u32; 14]) -> Launch {
 /// The answer of the reference to a case.
 pub fn evaluate(case: &Case) -> Answer {
     match case {
-        Case::Launch { card, kernel, data, vector, budget } => {
+        Case::Launch { card, kernel, data, vector, budget, shown } => {
             let kernel = kernel.build();
             let (mut data, mut vector) = (data.build(), vector.build());
             let (code, steps, state) = match card::read(card) {
@@ -185,14 +200,19 @@ pub fn evaluate(case: &Case) -> Answer {
                     (code, steps, saved::to_words(&warp))
                 }
             };
-            answer(code, steps, &state, &vector, &data)
+            let last = match shown {
+                Shown::All => digest(&state, &vector, &data),
+                Shown::X3 => state[3],
+                Shown::Data => digest(&[], &[], &data),
+            };
+            answer(code, steps, &state, last)
         }
         Case::State { state, kernel, data, vector, budget } => {
             let kernel = kernel.build();
             let (mut data, mut vector) = (data.build(), vector.build());
             let mut state = state.clone();
             let (code, steps) = saved::run(&mut state, &kernel, &mut vector, &mut data, *budget);
-            answer(code, steps, &state, &vector, &data)
+            answer(code, steps, &state, digest(&state, &vector, &data))
         }
         Case::CardRead { card } => {
             let (code, launch) = match card::read(card) {
@@ -206,30 +226,27 @@ pub fn evaluate(case: &Case) -> Answer {
                 pc: launch.entry,
                 mask: launch.fixed.mask,
                 splits: 0,
-                digest: Digest::new().words(&words).0,
+                last: digest(&words, &[], &[]),
             }
         }
         Case::Release { state } => {
             let mut state = state.clone();
             let code = saved::release(&mut state);
-            answer(code, 0, &state, &[], &[])
+            answer(code, 0, &state, digest(&state, &[], &[]))
         }
         Case::CardWrite { launch, target } => {
             let mut bytes = vec![0xa5; *target as usize];
             let code = code(card::write(&launch_of(launch), &mut bytes));
-            Answer {
-                code,
-                steps: 0,
-                pc: 0,
-                mask: 0,
-                splits: 0,
-                digest: Digest::new().bytes(&bytes).0,
-            }
+            Answer { code, steps: 0, pc: 0, mask: 0, splits: 0, last: digest(&[], &[], &bytes) }
         }
     }
 }
 
-fn answer(code: u32, steps: u32, state: &[u32], vector: &[u32], data: &[u8]) -> Answer {
+fn digest(state: &[u32], vector: &[u32], data: &[u8]) -> u32 {
+    Digest::new().words(state).words(vector).bytes(data).0
+}
+
+fn answer(code: u32, steps: u32, state: &[u32], last: u32) -> Answer {
     let whole = state.len() == saved::WORDS;
     let word = |at: usize| if whole { state[at] } else { 0 };
     Answer {
@@ -238,7 +255,7 @@ fn answer(code: u32, steps: u32, state: &[u32], vector: &[u32], data: &[u8]) -> 
         pc: word(saved::PC_AT),
         mask: word(saved::MASK_AT),
         splits: word(saved::OPEN_AT),
-        digest: Digest::new().words(state).words(vector).bytes(data).0,
+        last,
     }
 }
 
@@ -285,10 +302,11 @@ pub fn write_file(cases: &[Case]) -> Vec<u8> {
     for case in cases {
         let mut body = Vec::new();
         let kind = match case {
-            Case::Launch { card, kernel, data, vector, budget } => {
+            Case::Launch { card, kernel, data, vector, budget, shown } => {
                 put_bytes(&mut body, card);
                 put_runs(&mut body, kernel, data, vector, *budget);
-                1
+                let kind = LAUNCH_KINDS.iter().find(|(_, s)| s == shown);
+                kind.expect("every one has its kind").0
             }
             Case::State { state, kernel, data, vector, budget } => {
                 put_state(&mut body, state);
@@ -369,13 +387,6 @@ impl<'a> Reader<'a> {
         let kind = self.byte()?;
         let mut r = Reader(self.run()?);
         let case = match kind {
-            1 => Case::Launch {
-                card: r.run()?.to_vec(),
-                kernel: r.kernel()?,
-                data: r.data()?,
-                vector: r.vector()?,
-                budget: r.word()?,
-            },
             2 => Case::State {
                 state: r.state()?,
                 kernel: r.kernel()?,
@@ -392,7 +403,14 @@ impl<'a> Reader<'a> {
                 }
                 Case::CardWrite { launch, target: r.word()? }
             }
-            _ => return None,
+            launch => Case::Launch {
+                shown: LAUNCH_KINDS.iter().find(|(kind, _)| *kind == launch)?.1,
+                card: r.run()?.to_vec(),
+                kernel: r.kernel()?,
+                data: r.data()?,
+                vector: r.vector()?,
+                budget: r.word()?,
+            },
         };
         r.0.is_empty().then_some(case)
     }

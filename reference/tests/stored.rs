@@ -1,31 +1,55 @@
-//! The stored files are what the generator makes, and the reference's
-//! answers to the stored cases are the stored ones.
+//! The stored files: the generated cases are what the generator makes, every
+//! stored answer is the reference's, and every published program passes.
 
-use reference::case::{evaluate, read_file};
-use std::path::Path;
+use reference::case::{evaluate, read_file, write_file, Case};
+use std::path::PathBuf;
 use std::process::Command;
 
+/// The case files in the order of their answers in the stored output.
+const FILES: [&str; 3] = ["generated.bin", "riscv_tests.bin", "vector_ops.bin"];
+
+fn stored(name: &str) -> PathBuf {
+    PathBuf::from(env!("CARGO_MANIFEST_DIR")).join("../crates/cases").join(name)
+}
+
+/// The cases of a file, which are written as they are read, whoever made it.
+fn cases(file: &str) -> Vec<Case> {
+    let bytes = std::fs::read(stored("data").join(file)).expect("the cases");
+    let cases = read_file(&bytes).expect("a case file");
+    assert!(write_file(&cases) == bytes, "{file} is not written as it is read");
+    cases
+}
+
+fn answers(file: &str) -> String {
+    cases(file).iter().enumerate().map(|(n, case)| evaluate(case).line(n)).collect()
+}
+
 #[test]
-fn stored_files_are_what_is_made() {
-    let stored = Path::new(env!("CARGO_MANIFEST_DIR")).join("stored");
+fn generated_cases_are_what_is_made() {
     let status = Command::new(env!("CARGO_BIN_EXE_cases"))
-        .args([Path::new("check"), &stored.join("cases.bin"), &stored.join("expected.txt")])
+        .arg("check")
+        .arg(stored("data").join("generated.bin"))
         .output()
         .expect("the generator runs")
         .status;
     assert!(status.success());
+    assert!(cases("generated.bin").len() >= 5_000);
 }
 
 #[test]
 fn stored_answers_are_ours() {
-    let stored = Path::new(env!("CARGO_MANIFEST_DIR")).join("stored");
-    let bytes = std::fs::read(stored.join("cases.bin")).expect("the cases");
-    let expected = std::fs::read_to_string(stored.join("expected.txt")).expect("the answers");
-    let cases = read_file(&bytes).expect("a case file");
-    assert!(cases.len() >= 5_000);
-    let lines: Vec<&str> = expected.lines().collect();
-    assert_eq!(lines.len(), cases.len());
-    for (n, (case, line)) in cases.iter().zip(lines).enumerate() {
-        assert_eq!(evaluate(case).line(n).trim_end(), line);
+    let expected = std::fs::read_to_string(stored("stdout")).expect("the answers");
+    let ours: String = FILES.map(answers).concat();
+    for (n, (line, stored)) in ours.lines().zip(expected.lines()).enumerate() {
+        assert_eq!(line, stored, "line {} of the stored output", n + 1);
+    }
+    assert!(ours == expected, "the stored output has another number of lines");
+}
+
+#[test]
+fn published_programs_pass() {
+    for line in answers("riscv_tests.bin").lines() {
+        let fields: Vec<&str> = line.split(' ').collect();
+        assert_eq!((fields[1], fields[6]), ("3", "00000001"), "{line}");
     }
 }

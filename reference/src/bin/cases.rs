@@ -1,10 +1,13 @@
 //! The case generator and checker.
 //!
-//! `cases make CASES EXPECTED` writes both files (statistics on stderr);
-//! `cases answer CASES` prints the reference's answers to a case file;
-//! `cases check CASES EXPECTED` fails unless both files are what `make` makes.
+//! `cases make FILE` writes the generated case file (statistics on stderr);
+//! `cases check FILE` fails unless the file is what `make` makes;
+//! `cases answer FILE...` prints the reference's answers to case files, one
+//! file after the other.
 
-use reference::case::{evaluate, launch_words, read_file, write_file, Case, Data, Kernel, Vector};
+use reference::case::{
+    evaluate, launch_words, read_file, write_file, Case, Data, Kernel, Shown, Vector,
+};
 use reference::isa::{decode, ENDPRG, JOIN};
 use reference::state::{Fixed, Launch, Split, Warp};
 use reference::table::{name, variants, Shape, Variant, RD, RS1, RS2};
@@ -19,24 +22,19 @@ fn main() -> ExitCode {
     let args: Vec<String> = std::env::args().skip(1).collect();
     let args: Vec<&str> = args.iter().map(String::as_str).collect();
     let done = match args[..] {
-        ["make", cases, expected] => {
-            let (file, text) = make();
-            std::fs::write(cases, file).and_then(|()| std::fs::write(expected, text)).is_ok()
-        }
-        ["answer", cases] => match std::fs::read(cases).ok().and_then(|b| read_file(&b)) {
-            Some(all) => {
-                print!("{}", answers(&all));
-                true
+        ["make", file] => std::fs::write(file, make()).is_ok(),
+        ["check", file] => std::fs::read(file).is_ok_and(|bytes| bytes == make()),
+        ["answer", ref files @ ..] => {
+            match files.iter().map(|file| answers(file)).collect::<Option<String>>() {
+                Some(text) => {
+                    print!("{text}");
+                    true
+                }
+                None => false,
             }
-            None => false,
-        },
-        ["check", cases, expected] => {
-            let (file, text) = make();
-            std::fs::read(cases).is_ok_and(|b| b == file)
-                && std::fs::read(expected).is_ok_and(|b| b == text.as_bytes())
         }
         _ => {
-            eprintln!("usage: cases make|check CASES EXPECTED, or cases answer CASES");
+            eprintln!("usage: cases make|check FILE, or cases answer FILE...");
             false
         }
     };
@@ -48,17 +46,17 @@ fn main() -> ExitCode {
     }
 }
 
-fn answers(cases: &[Case]) -> String {
-    cases.iter().enumerate().map(|(n, case)| evaluate(case).line(n)).collect()
+fn answers(file: &str) -> Option<String> {
+    let cases = read_file(&std::fs::read(file).ok()?)?;
+    Some(cases.iter().enumerate().map(|(n, case)| evaluate(case).line(n)).collect())
 }
 
-fn make() -> (Vec<u8>, String) {
+fn make() -> Vec<u8> {
     let cases = all_cases();
     let file = write_file(&cases);
     assert_eq!(read_file(&file).as_ref(), Some(&cases), "the file does not read back");
-    let text = answers(&cases);
-    statistics(&cases, file.len(), text.len());
-    (file, text)
+    statistics(&cases, file.len());
+    file
 }
 
 /// xorshift64*, from fixed seeds.
@@ -369,6 +367,7 @@ fn launch_case(g: Ground, entry: u32, kernel: Vec<u32>, budget: u32) -> Case {
         data: g.data,
         vector: g.vector,
         budget,
+        shown: Shown::All,
     }
 }
 
@@ -1218,7 +1217,8 @@ fn sizes(out: &mut Vec<Case>) {
                 let state = saved::to_words(&Warp::launched(&launch)).to_vec();
                 Case::State { state, kernel, data, vector, budget }
             } else {
-                Case::Launch { card: card_of(&launch), kernel, data, vector, budget }
+                let (card, shown) = (card_of(&launch), Shown::All);
+                Case::Launch { card, kernel, data, vector, budget, shown }
             });
         };
     for state in [false, true] {
@@ -1322,6 +1322,7 @@ fn cards(out: &mut Vec<Case>) {
             data: g.data,
             vector: Vector { seed: rng.next(), ..g.vector },
             budget: rng.below(4),
+            shown: Shown::All,
         });
     }
     for n in 0..120 {
@@ -1612,10 +1613,10 @@ impl Stats {
     }
 }
 
-fn statistics(cases: &[Case], file: usize, text: usize) {
+fn statistics(cases: &[Case], file: usize) {
     let mut stats = Stats::default();
     cases.iter().for_each(|case| stats.count(case));
-    eprintln!("cases {} ({file} bytes, expected {text} bytes)", cases.len());
+    eprintln!("cases {} ({file} bytes)", cases.len());
     eprintln!("kinds {:?}", stats.kinds);
     eprintln!("steps {}, longest run {}, deepest {}", stats.steps, stats.longest, stats.deepest);
     eprintln!("codes {:?}", stats.codes);

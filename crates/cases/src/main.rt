@@ -1,0 +1,181 @@
+// Runs the machine on the stored cases and writes a line for each. reference/CASES-FORMAT.md says what a case file holds and what a line says.
+use warp::Launch;
+
+// What the last field says of a run, by the kind of its case.
+fn run_digest(kind: u32, state: &[u32], vector: &[u32], bytes: &[u8]) -> u32 {
+    match kind {
+        6 => if 3 < state.len() { state[3] } else { 0 },
+        7 => case_io::mixed_bytes(case_io::DIGEST, bytes),
+        _ => case_io::mixed_bytes(
+            case_io::mixed_words(case_io::mixed_words(case_io::DIGEST, state), vector),
+            bytes,
+        ),
+    }
+}
+
+// A saved state is launched already.
+fn launch_code(
+    kind: u32,
+    card: &[u8],
+    kernel: &[u32],
+    vector: &mut [u32],
+    bytes: &[u8],
+    state: &mut [u32],
+) -> u32 {
+    if kind == 2 {
+        return 0;
+    }
+    capi::bench_launch(card, kernel, vector, bytes, state)
+}
+
+// After a refused launch the state is all zeros, which the run refuses in turn: nothing changes.
+fn run_lent(
+    number: u32,
+    kind: u32,
+    card: &[u8],
+    state: &mut [u32],
+    kernel: &[u32],
+    vector: &mut [u32],
+    bytes: &mut [u8],
+    budget: u32,
+) {
+    let mut steps = [0u32; 1];
+    let launched = launch_code(kind, card, kernel, vector, bytes, state);
+    let ran = capi::bench_run(state, kernel, vector, bytes, budget, &mut steps);
+    let code = if launched == 0 { ran } else { launched };
+    let last = run_digest(kind, state, vector, bytes);
+    case_io::put_state_line(number, code, steps[0], state, last);
+}
+
+fn run_case(file: i32, number: u32, kind: u32, card: &[u8], state: &mut [u32]) {
+    let mut kernel = [0u32; 16385];
+    let mut bytes = [0u8; 65537];
+    let mut vector = [0u32; 1056];
+    let k = case_io::read_kernel(file, &mut kernel);
+    let b = case_io::read_data(file, &mut bytes);
+    let v = case_io::read_vector(file, &mut vector);
+    let budget = case_io::next_word(file);
+    run_lent(
+        number,
+        kind,
+        card,
+        state,
+        &kernel[..k],
+        &mut vector[..v],
+        &mut bytes[..b],
+        budget,
+    );
+}
+
+fn launch_case(file: i32, number: u32, kind: u32) {
+    let mut card = [0u8; 100];
+    let c = case_io::read_card(file, &mut card);
+    let mut state = [0u32; 207];
+    run_case(file, number, kind, &card[..c], &mut state);
+}
+
+fn state_case(file: i32, number: u32, kind: u32) {
+    let mut state = [0u32; 256];
+    let s = case_io::read_state(file, &mut state);
+    run_case(file, number, kind, b"", &mut state[..s]);
+}
+
+fn read_card_case(file: i32, number: u32) {
+    let mut card = [0u8; 100];
+    let c = case_io::read_card(file, &mut card);
+    let read = card::read_card(&card[..c]);
+    let a = read.answer;
+    let l = read.launch;
+    let f = l.fixed;
+    let words = [
+        f.numt,
+        f.numw,
+        f.wid,
+        f.launchmask,
+        f.codebase,
+        f.database,
+        l.entry,
+        f.knl,
+        f.wgid,
+        f.lds,
+        f.pds,
+        f.gidx,
+        f.gidy,
+        f.gidz,
+    ];
+    let digest = case_io::mixed_words(case_io::DIGEST, &words);
+    case_io::put_line(
+        number,
+        card::card_number(a),
+        0,
+        l.entry,
+        f.launchmask,
+        0,
+        digest,
+    );
+}
+
+fn release_lent(number: u32, state: &mut [u32]) {
+    let code = capi::bench_release(state);
+    let digest = case_io::mixed_words(case_io::DIGEST, state);
+    case_io::put_state_line(number, code, 0, state, digest);
+}
+
+fn release_case(file: i32, number: u32) {
+    let mut state = [0u32; 256];
+    let s = case_io::read_state(file, &mut state);
+    release_lent(number, &mut state[..s]);
+}
+
+fn write_lent(number: u32, l: Launch, target: &mut [u8]) {
+    let code = card::card_number(card::write_card(l, target));
+    case_io::put_line(
+        number,
+        code,
+        0,
+        0,
+        0,
+        0,
+        case_io::mixed_bytes(case_io::DIGEST, target),
+    );
+}
+
+fn write_card_case(file: i32, number: u32) {
+    let l = case_io::read_launch(file);
+    let mut target = [165u8; 100];
+    let n = case_io::bytes_in(&target, case_io::next_word(file));
+    write_lent(number, l, &mut target[..n]);
+}
+
+fn next_case(file: i32, number: u32) {
+    let kind = case_io::next_byte(file);
+    // The body's length, which its kind's parts give again.
+    case_io::next_word(file);
+    match kind {
+        2 => state_case(file, number, kind),
+        3 => read_card_case(file, number),
+        4 => release_case(file, number),
+        5 => write_card_case(file, number),
+        _ => launch_case(file, number, kind),
+    }
+}
+
+// The lines of a case file's cases, numbered from 0.
+fn run_file(path: &[u8]) {
+    let file = os::open_read(path);
+    // The file's letters.
+    case_io::next_word(file);
+    let count = case_io::next_word(file);
+    let mut i: u32 = 0;
+    while i < count {
+        next_case(file, i);
+        i += 1;
+    }
+    libc::close(file);
+}
+
+fn main() {
+    run_file(b"generated.bin");
+    run_file(b"riscv_tests.bin");
+    run_file(b"vector_ops.bin");
+}

@@ -1,0 +1,260 @@
+"""What the scripts that make kernels and case files share: an encoder of assembler text, cards, case records
+(reference/CASES-FORMAT.md), runs by QEMU, and the comparison with the reference before a file is written.
+
+An instruction is written as binutils prints it (objdump -M no-aliases,numeric), a jump with its distance in
+bytes. Ventus's own words have the names of docs/DEFINITION.md and the same way of writing.
+"""
+import os, re, struct, subprocess, sys, tempfile
+
+from decoder_cases import OBJDUMP, disassemble
+
+ROOT = os.path.dirname(os.path.dirname(os.path.abspath(__file__)))
+DATA_FOLDER = os.path.join(ROOT, 'crates', 'cases', 'data')
+QEMU = 'qemu-riscv32'
+# where a Linux user program can have its code and data
+CODE, DATA = 0x10000, 0x20000
+LANES = 32
+
+# ---- words
+
+
+def within(value, low, high):
+    assert low <= value < high, value
+    return value
+
+
+def i_field(imm):
+    return (within(imm, -2048, 2048) & 0xFFF) << 20
+
+
+def s_field(imm):
+    imm = within(imm, -2048, 2048)
+    return (imm >> 5 & 0x7F) << 25 | (imm & 0x1F) << 7
+
+
+def b_field(off):
+    off = within(off, -4096, 4096)
+    return (off >> 12 & 1) << 31 | (off >> 5 & 0x3F) << 25 | (off >> 1 & 0xF) << 8 | (off >> 11 & 1) << 7
+
+
+def j_field(off):
+    off = within(off, -1 << 20, 1 << 20)
+    return (off >> 20 & 1) << 31 | (off >> 1 & 0x3FF) << 21 | (off >> 11 & 1) << 20 | (off >> 12 & 0xFF) << 12
+
+
+def register(letter, place):
+    return lambda operand: within(int(operand.removeprefix(letter)), 0, 32) << place
+
+
+# an operand of the text, and the bits that it becomes
+FIELDS = {
+    'xd': register('x', 7), 'x1': register('x', 15), 'x2': register('x', 20),
+    'vd': register('v', 7), 'v1': register('v', 15), 'v2': register('v', 20),
+    'i': i_field, 's': s_field, 'b': b_field, 'j': j_field,
+    'u': lambda imm: within(imm, 0, 1 << 20) << 12,
+    'amount': lambda imm: within(imm, 0, 32) << 20,
+    'signed': lambda imm: (within(imm, -16, 16) & 0x1F) << 15,
+    'unsigned': lambda imm: within(imm, 0, 32) << 15,
+}
+BRANCHES = {'eq': 0, 'ne': 1, 'lt': 4, 'ge': 5, 'ltu': 6, 'geu': 7}
+LOADS = {'b': 0, 'h': 1, 'w': 2, 'bu': 4, 'hu': 5}
+STORES = {'b': (0, 7), 'h': (1, 3), 'w': (2, 6)}
+REGISTER_OPS = [('add sll slt sltu xor srl or and', 0), ('mul mulh mulhsu mulhu div divu rem remu', 1)]
+# vector ops from a funct6 on, with their forms
+VECTOR_OPS = [
+    (0b000000, 'vadd', 'vxi'), (0b000010, 'vsub', 'vx'), (0b000011, 'vrsub', 'xi'),
+    (0b000100, 'vminu vmin vmaxu vmax', 'vx'), (0b001001, 'vand vor vxor', 'vxi'),
+    (0b100101, 'vsll', 'vxu'), (0b101000, 'vsrl vsra', 'vxu'),
+    (0b011000, 'vmseq vmsne', 'vxi'), (0b011010, 'vmsltu vmslt', 'vx'),
+    (0b011100, 'vmsleu vmsle', 'vxi'), (0b011110, 'vmsgtu vmsgt', 'xi'),
+]
+VECTOR_M_OPS = [(0b100000, 'vdivu vdiv vremu vrem vmulhu vmul vmulhsu vmulh', 'vx')]
+# a form: its letter in the name, its funct3, its funct3 in the M group, its operand
+FORMS = {'v': ('v', 0, 2, 'v1'), 'x': ('x', 4, 6, 'x1'), 'i': ('i', 3, None, 'signed'), 'u': ('i', 3, None, 'unsigned')}
+JUMPS = ('jal', *('b' + c for c in BRANCHES))
+
+
+def scalar_table():
+    rows = {'lui': (0x37, 'xd u'), 'auipc': (0x17, 'xd u'), 'jal': (0x6F, 'xd j'), 'jalr': (0x67, 'xd i x1'),
+            'sub': (0x40000033, 'xd x1 x2'), 'sra': (0x40005033, 'xd x1 x2'), 'srai': (0x40005013, 'xd x1 amount')}
+    for names, funct7 in REGISTER_OPS:
+        rows |= {n: (funct7 << 25 | f3 << 12 | 0x33, 'xd x1 x2') for f3, n in enumerate(names.split())}
+    for n, f3 in {'addi': 0, 'slti': 2, 'sltiu': 3, 'xori': 4, 'ori': 6, 'andi': 7}.items():
+        rows[n] = (f3 << 12 | 0x13, 'xd x1 i')
+    rows |= {n: (f3 << 12 | 0x13, 'xd x1 amount') for n, f3 in (('slli', 1), ('srli', 5))}
+    rows |= {'b' + n: (f3 << 12 | 0x63, 'x1 x2 b') for n, f3 in BRANCHES.items()}
+    rows |= {'l' + n: (f3 << 12 | 0x03, 'xd i x1') for n, f3 in LOADS.items()}
+    rows |= {'s' + n: (f3 << 12 | 0x23, 'x2 s x1') for n, (f3, _) in STORES.items()}
+    return rows
+
+
+def ventus_table():
+    rows = {'join': (0x205B, ''), 'endprg': (0x400B, ''), 'setrpc': (0x305B, 'xd x1 i')}
+    rows |= {'vb' + n: (f3 << 12 | 0x5B, 'v1 v2 b') for n, f3 in BRANCHES.items()}
+    rows |= {'vl%s12' % n: (f3 << 12 | 0x7B, 'vd i v1') for n, f3 in LOADS.items()}
+    rows |= {'vs%s12' % n: (f3 << 12 | 0x7B, 'v2 s v1') for n, (_, f3) in STORES.items()}
+    return rows
+
+
+def vector_word(funct6, funct3):
+    return funct6 << 26 | 1 << 25 | funct3 << 12 | 0x57
+
+
+def vector_table():
+    rows = {}
+    for ops, funct3 in ((VECTOR_OPS, 1), (VECTOR_M_OPS, 2)):
+        for first, names, forms in ops:
+            for at, n in enumerate(names.split()):
+                for form in (FORMS[letter] for letter in forms):
+                    rows['%s.v%s' % (n, form[0])] = (vector_word(first + at, form[funct3]), 'vd v2 ' + form[3])
+    for form in (FORMS[letter] for letter in 'vxi'):
+        rows['vmv.v.' + form[0]] = (vector_word(0b010111, form[1]), 'vd ' + form[3])
+    rows['vmv.x.s'] = (vector_word(0b010000, 2), 'xd v2')
+    rows['vmv.s.x'] = (vector_word(0b010000, 6), 'vd x1')
+    rows['vid.v'] = (vector_word(0b010100, 2) | 0b10001 << 15, 'vd')
+    return rows
+
+
+VENTUS, VECTOR = ventus_table(), vector_table()
+# what only programs for QEMU have; a name that is no field stands for itself
+QEMU_ONLY = {'ecall': (0x73, ''), 'vsetvli': (0x0D007057, 'xd x1 e32 m1 ta ma'), 'vle32.v': (0x02006007, 'vd x1'), 'vse32.v': (0x02006027, 'vd x1'),
+             'vmerge.vim': (0x5C003057, 'vd v2 signed v0'), 'vrgather.vi': (0x32003057, 'vd v2 unsigned')}
+TABLE = scalar_table() | VECTOR | VENTUS | QEMU_ONLY
+
+
+def parse(text, target_base=0):
+    """the name and the operands, numbers as such; a jump's target is written in the base"""
+    name, *operands = re.split(r'[\s,()]+', re.sub(r'[#<].*', '', text).strip(' )'))
+    base = target_base if name in JUMPS else 0
+    return (name, *(int(o, base) if i == len(operands) - 1 and base or re.match(r'-?\d', o) else o for i, o in enumerate(operands)))
+
+
+def word(text):
+    name, *operands = parse(text)
+    bits, fields = TABLE[name]
+    fields = fields.split()
+    assert len(fields) == len(operands), text
+    for field, operand in zip(fields, operands):
+        if field in FIELDS:
+            bits |= FIELDS[field](operand)
+        else:
+            assert field == operand, text
+    return bits
+
+
+def check_encoder(texts):
+    """every different text's word, as binutils reads it back; returns how many were held against it"""
+    texts = sorted({t for t in texts if parse(t)[0] not in VENTUS})
+    for at, (text, read) in enumerate(zip(texts, disassemble([word(t) for t in texts]))):
+        meant = parse(text)
+        if meant[0] in JUMPS:
+            meant = (*meant[:-1], 4 * at + meant[-1] & 0xFFFFFFFF)
+        assert parse(read, 16) == meant, (text, read)
+    return len(texts)
+
+
+def load_immediate(register, value):
+    """one or two instructions that put the value's low 32 bits in a scalar register"""
+    value &= 0xFFFFFFFF
+    low = (value & 0xFFF ^ 0x800) - 0x800
+    upper = (value - low & 0xFFFFFFFF) >> 12
+    if upper == 0:
+        return ['addi %s,x0,%d' % (register, low)]
+    return ['lui %s,0x%x' % (register, upper)] + ['addi %s,%s,%d' % (register, register, low)] * (low != 0)
+
+
+# ---- cards and case files
+
+
+def card(numt=4, mask=None, entry=None, length=48, version=1, code=CODE, data=DATA):
+    mask = (1 << numt) - 1 if mask is None else mask
+    words = [mask, code, data, code if entry is None else entry, 0, 0, 0, 0, 0, 0, 0]
+    return struct.pack('>HBBBB11I', length, version, numt, 1, 0, *words)
+
+
+def packed(words, order):
+    return struct.pack('%s%dI' % (order, len(words)), *words)
+
+
+def record(kind, words, data, budget=65536):
+    """a launch of all lanes; the vector file's four words only say its size, since a launch clears it"""
+    sheet = card(LANES)
+    body = packed([len(sheet)], '>') + sheet
+    body += packed([len(words), len(words), *words, 0], '>')
+    body += packed([len(data), len(data)], '>') + data + packed([0], '>')
+    body += packed([1024, 0, 0, 0, budget], '>')
+    return struct.pack('>BI', kind, len(body)) + body
+
+
+def case_file(records):
+    return b'WBC1' + packed([len(records)], '>') + b''.join(records)
+
+
+def answer_line(number, steps, words, last):
+    """of a kernel that ran to its last word, ENDPRG"""
+    return '%d 3 %d %08x %08x 0 %08x\n' % (number, steps, CODE + 4 * (len(words) - 1), (1 << LANES) - 1, last)
+
+
+def digest(data):
+    h = 0x811C9DC5
+    for byte in data:
+        h = (h ^ byte) * 0x01000193 & 0xFFFFFFFF
+    return h
+
+
+def write_case_file(name, records, expected, program):
+    """writes the file if the reference's program answers the expected lines, else says where they differ"""
+    content = case_file(records)
+    with tempfile.NamedTemporaryFile() as f:
+        f.write(content)
+        f.flush()
+        answers = subprocess.run([program, 'answer', f.name], check=True, capture_output=True, text=True).stdout.splitlines(True)
+    differ = [pair for pair in zip(expected, answers) if pair[0] != pair[1]]
+    for pair in differ:
+        print('expected %sreference %s' % pair, end='')
+    if differ or len(expected) != len(answers):
+        sys.exit('%s: %d of %d lines differ, nothing written' % (name, len(differ), len(expected)))
+    with open(os.path.join(DATA_FOLDER, name), 'wb') as f:
+        f.write(content)
+    print('%s: %d cases, %d bytes' % (name, len(records), len(content)))
+
+
+def compare_case_file(name, records):
+    with open(os.path.join(DATA_FOLDER, name), 'rb') as f:
+        if f.read() != case_file(records):
+            sys.exit('%s: not what is made here' % name)
+    print('%s: %d cases, as made here' % (name, len(records)))
+
+
+# ---- QEMU
+
+
+def elf(words, data):
+    """an RV32 program of two segments, at CODE and DATA"""
+    code = packed(words, '<')
+    at = 0x1000
+    data_at = at + (len(code) + 0xFFF & ~0xFFF)
+    head = b'\x7fELF\x01\x01\x01' + bytes(9)
+    head += struct.pack('<HHIIIIIHHHHHH', 2, 243, 1, CODE, 52, 0, 0, 52, 32, 2, 0, 0, 0)
+    head += struct.pack('<8I', 1, at, CODE, CODE, len(code), len(code), 5, 0x1000)
+    head += struct.pack('<8I', 1, data_at, DATA, DATA, len(data), len(data), 6, 0x1000)
+    return head.ljust(at, b'\0') + code.ljust(data_at - at, b'\0') + data
+
+
+def words_of(texts):
+    return [word(t) for t in texts]
+
+
+def run_qemu(words, data, *options):
+    """the finished run: its exit number and what it wrote"""
+    with tempfile.TemporaryDirectory() as folder:
+        path = os.path.join(folder, 'program')
+        with open(path, 'wb') as f:
+            f.write(elf(words, data))
+        os.chmod(path, 0o755)
+        return subprocess.run([QEMU, *options, path], capture_output=True)
+
+
+def print_versions():
+    for tool in (QEMU, OBJDUMP):
+        print(subprocess.run([tool, '--version'], check=True, capture_output=True, text=True).stdout.split('\n')[0])
