@@ -6,8 +6,8 @@ use crate::isa::{
 use crate::state::{Fixed, Split, Warp, LANES};
 use crate::Refusal;
 
-/// The vector file: register r, lane l is `file[r][l]`.
-pub type VectorFile = [[u32; LANES]; 32];
+/// The vector file: register r, lane l is word 32 r + l.
+pub type VectorFile = [u32; 32 * LANES];
 
 type Step = Result<(), Refusal>;
 
@@ -83,7 +83,7 @@ fn execute(w: &mut Warp, insn: Insn, v: &mut VectorFile, data: &mut [u8]) -> Ste
         }
         Insn::Vec { op, vd, vs2, src } => {
             let src = match src {
-                VSrc::V(vs1) => v[vs1.index()],
+                VSrc::V(vs1) => *lanes_of(v, vs1),
                 VSrc::X(rs1) => [get(w, rs1); LANES],
                 VSrc::I(imm) => [imm; LANES],
             };
@@ -91,24 +91,24 @@ fn execute(w: &mut Warp, insn: Insn, v: &mut VectorFile, data: &mut [u8]) -> Ste
         }
         Insn::VmvSX { vd, rs1 } => {
             let value = get(w, rs1);
-            lanes(w.mask, &mut v[vd.index()], |_| value);
+            lanes(w.mask, lanes_mut(v, vd), |_| value);
         }
         Insn::VmvXS { rd, vs2 } => {
-            let value = uniform(w.mask, &v[vs2.index()]).ok_or(Refusal::Differ)?;
+            let value = uniform(w.mask, lanes_of(v, vs2)).ok_or(Refusal::Differ)?;
             set(w, rd, value);
         }
-        Insn::Vid { vd } => lanes(w.mask, &mut v[vd.index()], |lane| lane as u32),
+        Insn::Vid { vd } => lanes(w.mask, lanes_mut(v, vd), |lane| lane as u32),
         Insn::Vload { space, kind, vd, vs1, off } => {
-            let at = places(w, data, &v[vs1.index()], space, off, load_size(kind))?;
+            let at = places(w, data, lanes_of(v, vs1), space, off, load_size(kind))?;
             for lane in active(w.mask) {
-                v[vd.index()][lane] = load(data, kind, at[lane]);
+                lanes_mut(v, vd)[lane] = load(data, kind, at[lane]);
             }
         }
         Insn::Vstore { space, kind, vs1, vs2, off } => {
-            let at = places(w, data, &v[vs1.index()], space, off, store_size(kind))?;
+            let at = places(w, data, lanes_of(v, vs1), space, off, store_size(kind))?;
             // Ascending, so that the highest lane wins a shared byte.
             for lane in active(w.mask) {
-                store(data, kind, at[lane], v[vs2.index()][lane]);
+                store(data, kind, at[lane], lanes_of(v, vs2)[lane]);
             }
         }
     }
@@ -132,7 +132,7 @@ fn set(w: &mut Warp, r: X, value: u32) {
 
 #[inline]
 fn aligned(target: u32) -> Result<u32, Refusal> {
-    if target.is_multiple_of(4) {
+    if target % 4 == 0 {
         Ok(target)
     } else {
         Err(Refusal::Target)
@@ -268,7 +268,7 @@ fn csr_step(w: &mut Warp, op: CsrOp, rd: X, csr: u32, src: CsrSrc) -> Step {
 // Splits and joins.
 
 fn vbranch(w: &mut Warp, v: &VectorFile, cond: Cond, vs1: V, vs2: V, off: u32) -> Step {
-    let (a, b) = (&v[vs1.index()], &v[vs2.index()]);
+    let (a, b) = (lanes_of(v, vs1), lanes_of(v, vs2));
     let holding = match cond {
         Cond::Eq => compare(a, b, |a, b| a == b),
         Cond::Ne => compare(a, b, |a, b| a != b),
@@ -346,6 +346,16 @@ const BIT: [u32; LANES] = {
     bit
 };
 
+#[inline]
+fn lanes_of(v: &VectorFile, r: V) -> &[u32; LANES] {
+    v[r.index() * LANES..][..LANES].try_into().expect("a register is 32 words")
+}
+
+#[inline]
+fn lanes_mut(v: &mut VectorFile, r: V) -> &mut [u32; LANES] {
+    (&mut v[r.index() * LANES..][..LANES]).try_into().expect("a register is 32 words")
+}
+
 /// Write the active lanes of one register; `f` is cheap, so it is done for all
 /// lanes and blended.
 #[inline]
@@ -357,8 +367,8 @@ fn lanes(mask: u32, d: &mut [u32; LANES], f: impl Fn(usize) -> u32) {
 }
 
 fn vector(op: VOp, mask: u32, v: &mut VectorFile, vd: V, vs2: V, b: &[u32; LANES]) {
-    let a = v[vs2.index()];
-    let d = &mut v[vd.index()];
+    let a = *lanes_of(v, vs2);
+    let d = lanes_mut(v, vd);
     match op {
         VOp::Add => lanes(mask, d, |l| a[l].wrapping_add(b[l])),
         VOp::Sub => lanes(mask, d, |l| a[l].wrapping_sub(b[l])),

@@ -13,11 +13,12 @@ fn report(card_bytes: &[u8], kernel_bytes: &[u8], data: &mut [u8]) -> String {
         Ok(launch) => launch,
         Err(refusal) => return print::code_line(refusal.number()),
     };
-    let (words, rest) = kernel_bytes.as_chunks::<4>();
-    if !rest.is_empty() {
+    let words = kernel_bytes.chunks_exact(4);
+    if !words.remainder().is_empty() {
         return print::code_line(Refusal::Size.number());
     }
-    let kernel: Vec<u32> = words.iter().map(|w| u32::from_le_bytes(*w)).collect();
+    let kernel: Vec<u32> =
+        words.map(|w| u32::from_le_bytes(w.try_into().expect("4 bytes"))).collect();
     let mut vector = [0; run::VECTOR_WORDS];
     let (code, mut warp) = run::launch(&launch, &kernel, &mut vector, data);
     if code != 0 {

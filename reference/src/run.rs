@@ -30,16 +30,6 @@ pub fn test_runs(
     }
 }
 
-/// The vector file as 32 registers of 32 lanes.
-fn rows(vector: &mut [u32]) -> Option<&mut VectorFile> {
-    let (rows, rest) = vector.as_chunks_mut::<32>();
-    if rest.is_empty() {
-        rows.try_into().ok()
-    } else {
-        None
-    }
-}
-
 /// Launch a warp: a refusal gives the state of all zeros and clears nothing.
 pub fn launch(launch: &Launch, kernel: &[u32], vector: &mut [u32], data: &[u8]) -> (u32, Warp) {
     let f = &launch.fixed;
@@ -67,8 +57,9 @@ pub fn run(
     if let Err(refusal) = test_runs(f.code_base, f.data_base, kernel, vector, data) {
         return (refusal.number(), 0);
     }
-    let Some(rows) = rows(vector) else {
-        return (Refusal::Size.number(), 0);
+    let file: &mut VectorFile = match vector.try_into() {
+        Ok(file) => file,
+        Err(_) => return (Refusal::Size.number(), 0),
     };
     if !warp.well_formed() {
         return (Refusal::IllFormed.number(), 0);
@@ -76,7 +67,7 @@ pub fn run(
     // A step keeps the state well formed and the runs their size, so the
     // tests above hold for every step of the run.
     for taken in 0..budget {
-        if let Err(refusal) = exec::step(warp, kernel, rows, data) {
+        if let Err(refusal) = exec::step(warp, kernel, file, data) {
             return (refusal.number(), taken);
         }
     }

@@ -50,7 +50,7 @@ impl Fixed {
             && self.wid < self.numw
             && self.mask != 0
             && u64::from(self.mask) >> self.numt == 0
-            && self.code_base.is_multiple_of(4)
+            && self.code_base % 4 == 0
     }
 
     /// The number of the warp's first thread.
@@ -68,7 +68,7 @@ pub struct Launch {
 
 impl Launch {
     pub fn in_range(&self) -> bool {
-        self.fixed.in_range() && self.entry.is_multiple_of(4)
+        self.fixed.in_range() && self.entry % 4 == 0
     }
 }
 
@@ -96,7 +96,7 @@ impl Warp {
     pub fn well_formed(&self) -> bool {
         let depth = self.depth as usize;
         self.fixed.in_range()
-            && self.pc.is_multiple_of(4)
+            && self.pc % 4 == 0
             && self.x[0] == 0
             && depth <= SPLITS
             && !(self.ended && self.waiting)
@@ -110,7 +110,7 @@ impl Warp {
         let open = &self.splits[..self.depth as usize];
         open.iter().try_fold(self.fixed.mask, |expected, s| {
             let inside = s.else_mask != 0 && s.else_mask & !s.full == 0 && s.else_mask != s.full;
-            (s.full == expected && inside && s.else_pc.is_multiple_of(4)).then(|| s.running())
+            (s.full == expected && inside && s.else_pc % 4 == 0).then(|| s.running())
         })
     }
 }

@@ -23,7 +23,7 @@ fn main() -> ExitCode {
     let args: Vec<&str> = args.iter().map(String::as_str).collect();
     let done = match args[..] {
         ["make", file] => std::fs::write(file, make()).is_ok(),
-        ["check", file] => std::fs::read(file).is_ok_and(|bytes| bytes == make()),
+        ["check", file] => std::fs::read(file).map_or(false, |bytes| bytes == make()),
         ["answer", ref files @ ..] => {
             match files.iter().map(|file| answers(file)).collect::<Option<String>>() {
                 Some(text) => {
@@ -421,9 +421,11 @@ fn lengthen_budgets(out: &mut [Case]) {
     let mut rng = Rng::new(99);
     for case in out {
         let refused = evaluate(case).code != 0;
-        let (Case::Launch { kernel, budget, .. } | Case::State { kernel, budget, .. }) = case
-        else {
-            continue;
+        let (kernel, budget) = match case {
+            Case::Launch { kernel, budget, .. } | Case::State { kernel, budget, .. } => {
+                (kernel, budget)
+            }
+            _ => continue,
         };
         if rng.chance(6) && refused {
             let jumps = |word: &u32| matches!(word & 0x7f, 0x6f | 0x67 | 0x63 | 0x5b);
@@ -1268,7 +1270,7 @@ fn spoil(rng: &mut Rng, w: &mut [u32; 14]) {
         4 if w[0] < 32 => w[3] |= 1 << w[0],
         4 | 5 => w[4] |= 1 + rng.below(3),
         6 => w[6] |= 1 + rng.below(3),
-        7 => w[0] = rng.below(1 + w[3].ilog2()), // the mask's top lane is gone
+        7 => w[0] = rng.below(32 - w[3].leading_zeros()), // the mask's top lane is gone
         _ => w[1] = rng.below(w[2] + 1),
     }
 }
