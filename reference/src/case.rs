@@ -2,7 +2,7 @@
 //! The format is written down in CASES-FORMAT.md.
 
 use crate::state::{Fixed, Launch};
-use crate::{card, code, run, saved};
+use crate::{card, code, saved};
 
 pub const MAGIC: &[u8; 4] = b"WBC1";
 
@@ -188,17 +188,10 @@ pub fn evaluate(case: &Case) -> Answer {
         Case::Launch { card, kernel, data, vector, budget, shown } => {
             let kernel = kernel.build();
             let (mut data, mut vector) = (data.build(), vector.build());
-            let (code, steps, state) = match card::read(card) {
-                Err(refusal) => (refusal.number(), 0, [0; saved::WORDS]),
-                Ok(launch) => {
-                    let (code, mut warp) = run::launch(&launch, &kernel, &mut vector, &data);
-                    let (code, steps) = if code == 0 {
-                        run::run(&mut warp, &kernel, &mut vector, &mut data, *budget)
-                    } else {
-                        (code, 0)
-                    };
-                    (code, steps, saved::to_words(&warp))
-                }
+            let mut state = [0; saved::WORDS];
+            let (code, steps) = match saved::launch(card, &kernel, &mut vector, &data, &mut state) {
+                0 => saved::run(&mut state, &kernel, &mut vector, &mut data, *budget),
+                refused => (refused, 0),
             };
             let last = match shown {
                 Shown::All => digest(&state, &vector, &data),

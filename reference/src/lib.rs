@@ -5,6 +5,7 @@
 pub mod card;
 pub mod case;
 pub mod exec;
+pub mod generate;
 pub mod isa;
 pub mod print;
 pub mod run;

@@ -1,8 +1,7 @@
 //! A warp as 207 words (the layout is in CASES-FORMAT.md), and the calls over them.
 
-use crate::run;
 use crate::state::{Fixed, Split, Warp, SPLITS};
-use crate::{code, Refusal};
+use crate::{card, code, run, Refusal};
 
 pub const WORDS: usize = 207;
 
@@ -96,6 +95,27 @@ pub fn from_words(words: &[u32]) -> Result<Warp, Refusal> {
             gidz: words[FIXED_AT + 12],
         },
     })
+}
+
+/// Launch from a card into the place of a state: 13 or 1 for the card, then 1
+/// for any lent run (the state's own first, which is then left as it was).
+pub fn launch(
+    card: &[u8],
+    kernel: &[u32],
+    vector: &mut [u32],
+    data: &[u8],
+    state: &mut [u32],
+) -> u32 {
+    let whole = state.len() == WORDS;
+    let (code, warp) = match card::read(card) {
+        Err(refusal) => (refusal.number(), Warp::default()),
+        Ok(_) if !whole => (Refusal::Size.number(), Warp::default()),
+        Ok(launch) => run::launch(&launch, kernel, vector, data),
+    };
+    if whole {
+        state.copy_from_slice(&to_words(&warp));
+    }
+    code
 }
 
 /// Run a saved state in place: 1 for any lent run (the state's own among

@@ -1,0 +1,316 @@
+//! Makes the same calls on the proved library and on the reference, and stops at the first
+//! difference in an answer, a count, a state, a vector file or data.
+#![forbid(unsafe_code)]
+
+use linked::{number_or, usage_error, Lent, Linked, Machine, Reference};
+use reference::case::Case;
+use reference::generate::{all_cases, Rng, Table, NOP};
+use reference::isa::ENDPRG;
+use reference::{run, saved, Refusal};
+use std::collections::BTreeMap;
+use std::fmt::LowerHex;
+use std::process::ExitCode;
+
+const USAGE: &str = "usage: compare [SEED [STEPS]], or compare words
+    SEED   the first round's number, 0 to 4294967295; 1 if not given
+    STEPS  rounds are played until this many steps are taken; 5000000 if not given
+    words  decode each of the 2^32 words and do nothing else";
+
+/// How many words a round decodes besides those that its kernels run into.
+const DECODED: u32 = 100_000;
+
+/// A waiting warp is released this often, and then runs this many steps at most.
+const RELEASES: u32 = 8;
+const STEPS_AFTER_RELEASE: u32 = 200;
+
+fn main() -> ExitCode {
+    let mut arguments = std::env::args().skip(1);
+    let (first, second, third) = (arguments.next(), arguments.next(), arguments.next());
+    if first.as_deref() == Some("words") && second.is_none() {
+        return all_words();
+    }
+    let numbers = number_or(first, "SEED", 1)
+        .and_then(|seed| Ok((seed, number_or(second, "STEPS", 5_000_000)?)));
+    match (numbers, third) {
+        (Ok((seed, steps)), None) => rounds(seed, steps),
+        (Ok(_), Some(_)) => usage_error("too many arguments", USAGE),
+        (Err(wrong), _) => usage_error(&wrong, USAGE),
+    }
+}
+
+/// Plays rounds from number `seed` on until `steps` steps are taken.
+fn rounds(seed: u32, steps: u64) -> ExitCode {
+    let mut seen = Seen::default();
+    let mut round = seed;
+    loop {
+        if let Err(difference) = Round::new(round, &mut seen).play() {
+            println!(
+                "DIFFERENCE in round {round}, {difference}\nrepeat it with: compare {round} 1"
+            );
+            return ExitCode::FAILURE;
+        }
+        if seen.steps >= steps {
+            break;
+        }
+        round = round.wrapping_add(1);
+    }
+    seen.print();
+    println!("total: rounds {seed} to {round}, {} steps, 0 differences", seen.steps);
+    ExitCode::SUCCESS
+}
+
+/// Decodes every word there is.
+fn all_words() -> ExitCode {
+    let mut refused = 0u64;
+    for word in 0..=u32::MAX {
+        match decode(word) {
+            Ok(answer) => refused += u64::from(answer != 0),
+            Err(difference) => {
+                println!("DIFFERENCE in {difference}");
+                return ExitCode::FAILURE;
+            }
+        }
+    }
+    println!("decode: all 4294967296 words, {refused} refused, 0 differences");
+    ExitCode::SUCCESS
+}
+
+/// Both machines' answer to a word.
+fn decode(word: u32) -> Result<u32, String> {
+    let (ours, theirs) = (Linked::decode(word), Reference::decode(word));
+    if ours == theirs {
+        return Ok(ours);
+    }
+    Err(format!("decode of {word:08x}: answer {ours} against the reference's {theirs}"))
+}
+
+#[derive(Debug)]
+enum Call<'a> {
+    Launch(&'a [u8]),
+    Step,
+    Run(u32),
+    Release,
+}
+
+impl Call<'_> {
+    fn make<M: Machine>(&self, kernel: &[u32], lent: &mut Lent) -> u32 {
+        match *self {
+            Call::Launch(card) => M::launch(card, kernel, lent),
+            Call::Step => M::step(kernel, lent),
+            Call::Run(budget) => M::run(kernel, budget, lent),
+            Call::Release => M::release(&mut lent.state),
+        }
+    }
+
+    fn kind(&self) -> &'static str {
+        match self {
+            Call::Launch(_) => "launch",
+            Call::Step => "step",
+            Call::Run(_) => "run",
+            Call::Release => "release",
+        }
+    }
+}
+
+/// The same lent runs, once for each machine.
+#[derive(Clone)]
+struct Pair {
+    linked: Lent,
+    reference: Lent,
+}
+
+impl Pair {
+    fn of(lent: Lent) -> Pair {
+        Pair { reference: lent.clone(), linked: lent }
+    }
+
+    fn set_steps(&mut self, steps: Vec<u32>) {
+        (self.linked.steps, self.reference.steps) = (steps.clone(), steps);
+    }
+}
+
+/// What was compared: the answers of each kind of call, and the steps taken.
+#[derive(Default)]
+struct Seen {
+    answers: BTreeMap<&'static str, BTreeMap<u32, u64>>,
+    steps: u64,
+}
+
+impl Seen {
+    fn count(&mut self, kind: &'static str, answer: u32) {
+        *self.answers.entry(kind).or_default().entry(answer).or_default() += 1;
+    }
+
+    fn print(&self) {
+        for (kind, answers) in &self.answers {
+            let each: Vec<_> = answers.iter().map(|(code, n)| format!("{code}: {n}")).collect();
+            println!(
+                "{kind}: {} calls compared; by answer {}",
+                answers.values().sum::<u64>(),
+                each.join(", ")
+            );
+        }
+    }
+}
+
+struct Round<'a> {
+    number: u32,
+    /// Draws what the generator's cases leave open.
+    rng: Rng,
+    seen: &'a mut Seen,
+}
+
+impl Round<'_> {
+    fn new(number: u32, seen: &mut Seen) -> Round<'_> {
+        Round { number, rng: Rng::new(1 << 40 | u64::from(number)), seen }
+    }
+
+    fn play(&mut self) -> Result<(), String> {
+        for (n, case) in all_cases(self.number).iter().enumerate() {
+            self.case(case).map_err(|what| format!("case {n}: {what}"))?;
+        }
+        self.decode_words()
+    }
+
+    fn case(&mut self, case: &Case) -> Result<(), String> {
+        match case {
+            Case::Launch { card, kernel, data, vector, budget, .. } => {
+                self.launch(card, &kernel.build(), vector.build(), data.build(), *budget)
+            }
+            Case::State { state, kernel, data, vector, budget } => {
+                let pair = self.pair(state.clone(), vector.build(), data.build());
+                self.run_and_step(&kernel.build(), pair, *budget)
+            }
+            Case::CardRead { card } => {
+                let vector = (0..run::VECTOR_WORDS).map(|_| self.rng.word()).collect();
+                self.launch(card, &[NOP, ENDPRG], vector, vec![0; 8], 3)
+            }
+            Case::Release { state } => {
+                let mut pair = self.pair(state.clone(), vec![], vec![]);
+                self.both(&Call::Release, &[], &mut pair).map(|_| ())
+            }
+            // No call writes a card.
+            Case::CardWrite { .. } => Ok(()),
+        }
+    }
+
+    fn pair(&mut self, state: Vec<u32>, vector: Vec<u32>, data: Vec<u8>) -> Pair {
+        Pair::of(Lent { state, vector, data, steps: vec![self.rng.word()] })
+    }
+
+    /// Makes the call on both machines and compares all that they leave.
+    fn both(&mut self, call: &Call, kernel: &[u32], pair: &mut Pair) -> Result<u32, String> {
+        let ours = call.make::<Linked>(kernel, &mut pair.linked);
+        let theirs = call.make::<Reference>(kernel, &mut pair.reference);
+        self.seen.count(call.kind(), ours);
+        if ours == theirs && pair.linked == pair.reference {
+            return Ok(ours);
+        }
+        let left = first_difference(&pair.linked, &pair.reference);
+        Err(format!("{call:?}: answer {ours} against the reference's {theirs}; {left}"))
+    }
+
+    /// Launches into a state of any words, seldom of another length, and goes on from there.
+    fn launch(
+        &mut self,
+        card: &[u8],
+        kernel: &[u32],
+        vector: Vec<u32>,
+        data: Vec<u8>,
+        budget: u32,
+    ) -> Result<(), String> {
+        let words =
+            if self.rng.chance(16) { self.rng.pick(&[0, 1, 206, 208]) } else { saved::WORDS };
+        let state = (0..words).map(|_| self.rng.word()).collect();
+        let mut pair = self.pair(state, vector, data);
+        match self.both(&Call::Launch(card), kernel, &mut pair)? {
+            0 => self.run_and_step(kernel, pair, budget),
+            _ => Ok(()),
+        }
+    }
+
+    /// The same budget as runs and as single steps, which must end alike.
+    fn run_and_step(&mut self, kernel: &[u32], pair: Pair, budget: u32) -> Result<(), String> {
+        let (mut whole, mut single) = (pair.clone(), pair);
+        if self.rng.chance(8) {
+            self.refuse_count(kernel, &mut whole, budget)?;
+        }
+        self.advance(kernel, &mut whole, budget, Call::Run)?;
+        self.advance(kernel, &mut single, budget, |_| Call::Step)?;
+        single.set_steps(whole.linked.steps.clone());
+        if whole.linked != single.linked {
+            let left = first_difference(&whole.linked, &single.linked);
+            return Err(format!("the library's run against its own single steps: {left}"));
+        }
+        self.both(&Call::Release, kernel, &mut whole).map(|_| ())
+    }
+
+    /// A run whose count has not exactly one word's room.
+    fn refuse_count(&mut self, kernel: &[u32], pair: &mut Pair, budget: u32) -> Result<(), String> {
+        let room = self.rng.pick(&[0, 2, 3]);
+        let one = pair.linked.steps.clone();
+        pair.set_steps((0..room).map(|_| self.rng.word()).collect());
+        self.both(&Call::Run(budget), kernel, pair)?;
+        pair.set_steps(one);
+        Ok(())
+    }
+
+    /// Takes the budget's steps by calls of `next`, releasing the warp where it waits.
+    fn advance<'c>(
+        &mut self,
+        kernel: &[u32],
+        pair: &mut Pair,
+        budget: u32,
+        next: impl Fn(u32) -> Call<'c>,
+    ) -> Result<(), String> {
+        let (mut left, mut releases) = (budget, 0);
+        loop {
+            let call = next(left);
+            if left == 0 && matches!(call, Call::Step) {
+                return Ok(());
+            }
+            let code = self.both(&call, kernel, pair)?;
+            let taken = match call {
+                Call::Run(_) => pair.linked.steps[0],
+                _ => u32::from(code == 0),
+            };
+            self.seen.steps += u64::from(taken);
+            left -= taken;
+            if code == Refusal::Waiting.number() && releases < RELEASES {
+                self.both(&Call::Release, kernel, pair)?;
+                (left, releases) = (left.min(STEPS_AFTER_RELEASE), releases + 1);
+            } else if code != 0 || left == 0 {
+                return Ok(());
+            }
+        }
+    }
+
+    /// Words drawn from the tables, words one bit beside them, and any words.
+    fn decode_words(&mut self) -> Result<(), String> {
+        let table = Table::whole();
+        for n in 0..DECODED {
+            let any = self.rng.word();
+            let variant = &table.all[self.rng.below(table.all.len() as u32) as usize];
+            let legal = variant.fixed | any & variant.free;
+            let word = [any, legal, legal ^ 1 << self.rng.below(32)][n as usize % 3];
+            self.seen.count("decode", decode(word)?);
+        }
+        Ok(())
+    }
+}
+
+/// The first place of each lent run in which the two differ.
+fn first_difference(ours: &Lent, theirs: &Lent) -> String {
+    let places = [
+        first_place("state word", &ours.state, &theirs.state),
+        first_place("vector word", &ours.vector, &theirs.vector),
+        first_place("data byte", &ours.data, &theirs.data),
+        first_place("count word", &ours.steps, &theirs.steps),
+    ];
+    places.into_iter().flatten().collect::<Vec<_>>().join("; ")
+}
+
+fn first_place<T: PartialEq + LowerHex>(name: &str, ours: &[T], theirs: &[T]) -> Option<String> {
+    let at = ours.iter().zip(theirs).position(|(a, b)| a != b)?;
+    Some(format!("{name} {at}: {:x} against {:x}", ours[at], theirs[at]))
+}

@@ -1,0 +1,30 @@
+//! The proved library and the reference behind one interface, to compare and to time them.
+#![deny(unsafe_code)]
+
+mod arguments;
+#[allow(unsafe_code)]
+mod library;
+mod plain;
+
+pub use arguments::{number_or, usage_error};
+pub use library::Linked;
+pub use plain::Reference;
+
+/// All that a call may change.
+#[derive(Clone, Debug, PartialEq, Eq)]
+pub struct Lent {
+    pub state: Vec<u32>,
+    pub vector: Vec<u32>,
+    pub data: Vec<u8>,
+    /// Where a run puts its count; another length than 1 is refused.
+    pub steps: Vec<u32>,
+}
+
+/// The five calls, as docs/FILES.md has them.
+pub trait Machine {
+    fn launch(card: &[u8], kernel: &[u32], lent: &mut Lent) -> u32;
+    fn step(kernel: &[u32], lent: &mut Lent) -> u32;
+    fn run(kernel: &[u32], budget: u32, lent: &mut Lent) -> u32;
+    fn release(state: &mut [u32]) -> u32;
+    fn decode(word: u32) -> u32;
+}

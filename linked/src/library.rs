@@ -1,0 +1,114 @@
+//! The linked library's five calls, made safe. Nothing checks these declarations against
+//! crates/capi/src/lib.rt: a slice is passed as its pointer and then its length in elements.
+
+use crate::{Lent, Machine};
+
+mod c {
+    extern "C" {
+        pub fn bench_launch(
+            card: *const u8,
+            card_bytes: usize,
+            kernel: *const u32,
+            kernel_words: usize,
+            vector: *mut u32,
+            vector_words: usize,
+            data: *const u8,
+            data_bytes: usize,
+            state: *mut u32,
+            state_words: usize,
+        ) -> u32;
+        pub fn bench_step(
+            state: *mut u32,
+            state_words: usize,
+            kernel: *const u32,
+            kernel_words: usize,
+            vector: *mut u32,
+            vector_words: usize,
+            data: *mut u8,
+            data_bytes: usize,
+        ) -> u32;
+        pub fn bench_run(
+            state: *mut u32,
+            state_words: usize,
+            kernel: *const u32,
+            kernel_words: usize,
+            vector: *mut u32,
+            vector_words: usize,
+            data: *mut u8,
+            data_bytes: usize,
+            budget: u32,
+            steps: *mut u32,
+            steps_words: usize,
+        ) -> u32;
+        pub fn bench_release(state: *mut u32, state_words: usize) -> u32;
+        pub fn bench_decode(word: u32) -> u32;
+    }
+}
+
+/// The proved machine.
+pub struct Linked;
+
+// SAFETY, of each call: its contract asks nothing of its caller, it keeps no pointer, and each
+// pointer and length is that of a slice borrowed for the call, for writing where the call writes.
+impl Machine for Linked {
+    fn launch(card: &[u8], kernel: &[u32], lent: &mut Lent) -> u32 {
+        let Lent { state, vector, data, .. } = lent;
+        unsafe {
+            c::bench_launch(
+                card.as_ptr(),
+                card.len(),
+                kernel.as_ptr(),
+                kernel.len(),
+                vector.as_mut_ptr(),
+                vector.len(),
+                data.as_ptr(),
+                data.len(),
+                state.as_mut_ptr(),
+                state.len(),
+            )
+        }
+    }
+
+    fn step(kernel: &[u32], lent: &mut Lent) -> u32 {
+        let Lent { state, vector, data, .. } = lent;
+        unsafe {
+            c::bench_step(
+                state.as_mut_ptr(),
+                state.len(),
+                kernel.as_ptr(),
+                kernel.len(),
+                vector.as_mut_ptr(),
+                vector.len(),
+                data.as_mut_ptr(),
+                data.len(),
+            )
+        }
+    }
+
+    fn run(kernel: &[u32], budget: u32, lent: &mut Lent) -> u32 {
+        let Lent { state, vector, data, steps } = lent;
+        unsafe {
+            c::bench_run(
+                state.as_mut_ptr(),
+                state.len(),
+                kernel.as_ptr(),
+                kernel.len(),
+                vector.as_mut_ptr(),
+                vector.len(),
+                data.as_mut_ptr(),
+                data.len(),
+                budget,
+                steps.as_mut_ptr(),
+                steps.len(),
+            )
+        }
+    }
+
+    fn release(state: &mut [u32]) -> u32 {
+        unsafe { c::bench_release(state.as_mut_ptr(), state.len()) }
+    }
+
+    fn decode(word: u32) -> u32 {
+        unsafe { c::bench_decode(word) }
+    }
+}

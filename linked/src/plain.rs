@@ -1,0 +1,35 @@
+//! The reference behind the five calls.
+
+use crate::{Lent, Machine};
+use reference::{isa, saved, Refusal};
+
+/// The interpreter of `reference/`.
+pub struct Reference;
+
+impl Machine for Reference {
+    fn launch(card: &[u8], kernel: &[u32], lent: &mut Lent) -> u32 {
+        saved::launch(card, kernel, &mut lent.vector, &lent.data, &mut lent.state)
+    }
+
+    fn step(kernel: &[u32], lent: &mut Lent) -> u32 {
+        saved::step(&mut lent.state, kernel, &mut lent.vector, &mut lent.data)
+    }
+
+    fn run(kernel: &[u32], budget: u32, lent: &mut Lent) -> u32 {
+        let Lent { state, vector, data, steps } = lent;
+        if steps.len() != 1 {
+            return Refusal::Size.number();
+        }
+        let (code, taken) = saved::run(state, kernel, vector, data, budget);
+        steps[0] = taken;
+        code
+    }
+
+    fn release(state: &mut [u32]) -> u32 {
+        saved::release(state)
+    }
+
+    fn decode(word: u32) -> u32 {
+        isa::decode(word).map_or(Refusal::NoInstruction.number(), |_| 0)
+    }
+}
