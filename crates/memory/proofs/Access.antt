@@ -1,5 +1,5 @@
 -- The access rule by one wrapping difference: an access's place is its address less the base. Assumes nothing.
-use mathlib.Core.Path.{_≡_, refl, ap, _∙_}
+use mathlib.Core.Path.{_≡_, refl, sym, ap, subst, _∙_}
 use mathlib.Core.Bool.{Bool, true, false, not, _&&_}
 use mathlib.Core.List.{List}
 use Prim.Native.Nat.{ℕ, _+_, _-_, _^_, _≤_, _<_}
@@ -9,11 +9,11 @@ use lib.Dec.{eqb, ltb, leb}
 use borrow.Author.Tests.{lt-ltb, le-ltb, leb-true, leb-false}
 use Rattle.word.specs.Word.{subOf}
 use Rattle.lanes.specs.Mask.{bit}
-use Rattle.lanes.specs.Lanes.{maskOf}
+use Rattle.lanes.specs.Lanes.{lanesMax, maskOf}
 use Rattle.lanes.specs.Rows.{at}
 use Rattle.lanes.specs.Laws.{all-same, ok-not}
 use Rattle.lanes.specs.MaskLaws.{and-bits, mask-zero}
-use Rattle.memory.specs.Memory.{insideOf}
+use Rattle.memory.specs.Memory.{DataOk, insideOf}
 use Rattle.memory.specs.LaneAccess.{laneInside, allInside}
 use Rattle.memory.specs.Rows.{Checked, placeLane, outsideLane}
 use Rattle.memory.specs.Laws.{inside-true, all-inside-at}
@@ -36,6 +36,31 @@ place-at base len w a k z e = omega (arith, inside-true base len w a e)
 
 pub place-fits : (base len w a : ℕ) → base + len ≤ 2 ^ 32 → 1 ≤ w → insideOf base len w a ≡ true → subOf a base + w ≤ len
 place-fits base len w a k z e = omega (arith, inside-true base len w a e)
+
+-- an operation's size s as the code found it, w, and a test made with it
+abbrev Found : ℕ → ℕ → Type 0
+Found w s = (w ≡ s) × ((1 ≤ w) × (w ≤ 4))
+
+found-some : {w s : ℕ} → Found w s → 1 ≤ s
+found-some e = subst (λ (x : ℕ). 1 ≤ x) (e .0) (e .1 .0)
+
+module _ (base len a : ℕ) {w s : ℕ} {r : Bool} (e : Found w s) (q : r ≡ insideOf base len w a) where
+  pub tested : r ≡ insideOf base len s a
+  tested = q ∙ ap (λ (x : ℕ). insideOf base len x a) (e .0)
+
+  module _ (k : DataOk base len) (t : r ≡ true) where
+    pub tested-place : subOf a base ≡ a - base
+    tested-place = place-at base len s a (k .1) (found-some e) (sym tested ∙ t)
+
+    pub tested-fits : subOf a base + s ≤ len
+    tested-fits = place-fits base len s a (k .1) (found-some e) (sym tested ∙ t)
+
+module _ (n mask base len : ℕ) (o : List ℕ) {w s : ℕ} {r : Bool} (e : Found w s) (q : r ≡ allInside n (bit mask) base len w (at o)) where
+  pub lanes-tested : r ≡ allInside n (bit mask) base len s (at o)
+  lanes-tested = q ∙ ap (λ (x : ℕ). allInside n (bit mask) base len x (at o)) (e .0)
+
+  pub lanes-checked : n ≤ lanesMax → DataOk base len → r ≡ true → Checked n mask base len s o
+  lanes-checked h k t = record { count = h; lent = k; some = found-some e; inside = sym t ∙ lanes-tested }
 
 -- the same of each active lane, after the test pass
 module _ {n mask base len w : ℕ} {o : List ℕ} (c : Checked n mask base len w o) (l : ℕ) (h : l < n) (t : bit mask l ≡ true) where

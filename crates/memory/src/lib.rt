@@ -7,6 +7,7 @@ ghost use mathlib.Core.Path.{_≡_};
 ghost use Prim.Native.Nat.{_+_, _-_, _^_, _<_, _≤_};
 ghost use lib.ListN.{length};
 ghost use lib.Seq.{sets};
+ghost use Rattle.word.specs.Word.{subOf};
 ghost use Rattle.lanes.specs.Mask.{bit};
 ghost use Rattle.lanes.specs.Lanes.{lanesMax, registers, fileWords, laneOf, maskOf};
 ghost use Rattle.lanes.specs.Rows.{at, Row, RowOn};
@@ -34,12 +35,6 @@ fn wide(x: u8) -> u32
     ensures { λ r. ⌜ (r ≡ x) × (r < 256) ⌝ }
 {
     x as u32
-}
-
-fn index(x: u32) -> usize
-    ensures { λ r. ⌜ r ≡ x ⌝ }
-{
-    x as usize
 }
 
 fn size(k: LoadOp) -> usize
@@ -83,6 +78,13 @@ fn inside(base: u32, len: usize, w: usize, a: u32) -> bool
     word::sub(a, base) < room(len, w)
 }
 
+// The index of the byte at address a; past every place where a lies below the base.
+fn place(base: u32, a: u32) -> usize
+    ensures { λ r. ⌜ r ≡ subOf a base ⌝ }
+{
+    word::sub(a, base) as usize
+}
+
 // Reads in a straight line: each becomes one machine load.
 fn byte_at(d: &[u8], i: usize) -> u32
     requires { ⌜ i + 1 ≤ length (now d) ⌝ }
@@ -100,7 +102,7 @@ fn half_at(d: &[u8], i: usize) -> u32
     low + 256 * high
 }
 
-fn word_at(d: &[u8], i: usize) -> u32
+pub fn word_at(d: &[u8], i: usize) -> u32
     requires { ⌜ i + 4 ≤ length (now d) ⌝ }
     ensures { λ r. ⌜ r ≡ leAt 4 (now (d .entry)) i ⌝ }
 {
@@ -162,7 +164,7 @@ pub fn scalar_load(d: &[u8], base: u32, k: LoadOp, a: u32) -> Loaded
     ensures { λ r. ⌜ r ≡ scalarLoadOf (now (d .entry)) base k a ⌝ }
 {
     if inside(base, d.len(), size(k), a) {
-        return Loaded::Found(load_at(d, k, index(word::sub(a, base))));
+        return Loaded::Found(load_at(d, k, place(base, a)));
     }
     Loaded::Outside
 }
@@ -173,7 +175,7 @@ pub fn scalar_store(d: &mut [u8], base: u32, k: StoreOp, a: u32, x: u32) -> bool
     ensures { λ r. ⌜ (r ≡ insideOf base (length (now (d .entry))) (widthOf k) a) × (now (d .exit) ≡ scalarStoreOf (now (d .entry)) base k a x) ⌝ }
 {
     if inside(base, d.len(), width(k), a) {
-        put_at(d, k, index(word::sub(a, base)), x);
+        put_at(d, k, place(base, a), x);
         return true;
     }
     false
@@ -259,7 +261,7 @@ fn fetch(d: &[u8], mask: u32, k: LoadOp, n: usize, base: u32, o: &[u32; 32], x: 
     let mut l = 0;
     while l < n {
         if lanes::active(mask, Lane(l)) {
-            x[l] = load_at(d, k, index(word::sub(o[l], base)));
+            x[l] = load_at(d, k, place(base, o[l]));
         }
         l += 1;
     }
@@ -287,7 +289,7 @@ fn store(d: &mut [u8], mask: u32, k: StoreOp, n: usize, base: u32, o: &[u32; 32]
     let mut l = 0;
     while l < n {
         if lanes::active(mask, Lane(l)) {
-            put_at(d, k, index(word::sub(o[l], base)), x[l]);
+            put_at(d, k, place(base, o[l]), x[l]);
         }
         l += 1;
     }

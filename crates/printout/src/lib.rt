@@ -5,7 +5,6 @@ ghost use Prim.Native.Nat.{_+_, _/_, _<_, _≤_};
 ghost use mathlib.Core.List.{[], _∷_};
 ghost use lib.ListN.{length, take};
 ghost use Rattle.io.specs.Counts.{Counts};
-ghost use Rattle.memory.specs.Bytes.{leAt};
 ghost use Rattle.definition.specs.Step.{kernelLimit};
 ghost use Rattle.printout.specs.Text.{digitOf, hexDigits, hexOf, decimalOf, lineOf};
 ghost use Rattle.printout.specs.Puts.{Puts, roomNeeded};
@@ -102,23 +101,6 @@ fn put_five_lines(out: &mut [u8], code: u32, steps: u64, pc: u32, mask: u32, spl
 
 // ---- the kernel file's words
 
-fn wide(x: u8) -> u32
-    ensures { λ r. ⌜ (r ≡ x) × (r < 256) ⌝ }
-{
-    x as u32
-}
-
-fn word_at(d: &[u8], i: usize) -> u32
-    requires { ⌜ i + 4 ≤ length (now d) ⌝ }
-    ensures { λ r. ⌜ r ≡ leAt 4 (now (d .entry)) i ⌝ }
-{
-    let a = wide(d[i]);
-    let b = wide(d[i + 1]);
-    let c = wide(d[i + 2]);
-    let e = wide(d[i + 3]);
-    a + 256 * (b + 256 * (c + 256 * e))
-}
-
 // The words of a kernel file at the start of `words`.
 fn put_words(kernel: &[u8], words: &mut [u32])
     requires { ⌜ length (now kernel) / 4 ≤ length (now words) ⌝ }
@@ -127,7 +109,7 @@ fn put_words(kernel: &[u8], words: &mut [u32])
     let n = kernel.len() / 4;
     let mut i = 0;
     while i < n {
-        words[i] = word_at(kernel, 4 * i);
+        words[i] = memory::word_at(kernel, 4 * i);
         i += 1;
     }
 }

@@ -27,25 +27,22 @@ loop-holds c = (omega arith, (c .before .pre .0, λ k h. absurd (omega arith)))
 active-requires : tie.Need-active-requires Inv-loop μ-loop
 active-requires c κs = search needs
 
-mul-sub : tie.Need-mul-sub Inv-loop μ-loop
-mul-sub c = search needs
+mul-place : tie.Need-mul-place Inv-loop μ-loop
+mul-place c = search needs
 
-element-copy-out-sub : tie.Need-element-copy-out-sub Inv-loop μ-loop
-element-copy-out-sub c = search needs
+element-copy-out-place : tie.Need-element-copy-out-place Inv-loop μ-loop
+element-copy-out-place c = search needs
 
-sub-requires : tie.Need-sub-requires Inv-loop μ-loop
-sub-requires c κs = search needs
-
-index-requires : tie.Need-index-requires Inv-loop μ-loop
-index-requires c κs = search needs
+place-requires : tie.Need-place-requires Inv-loop μ-loop
+place-requires c κs = search needs
 
 load-at-requires : tie.Need-load-at-requires Inv-loop μ-loop
 load-at-requires c κs =
-    let t = c .before .before .before in
+    let t = c .before .before in
     let k = t .before .before .before in
     let s = k .before .before in
     let below : k .loop .l < s .args .n = omega arith in
-    subst (λ (i : ℕ). i + sizeOf (s .args .k) ≤ length (s .args .d .now)) (sym (c .index .ensures ∙ c .before .sub .ensures)) (lane-fits (s .pre .1) (k .loop .l) below (sym (t .before .active .ensures) ∙ t .if1 .taken))
+    subst (λ (i : ℕ). i + sizeOf (s .args .k) ≤ length (s .args .d .now)) (sym (c .place .ensures)) (lane-fits (s .pre .1) (k .loop .l) below (sym (t .before .active .ensures) ∙ t .if1 .taken))
 
 mul-x : tie.Need-mul-x Inv-loop μ-loop
 mul-x c = search needs
@@ -73,9 +70,9 @@ loop-again c =
       ⊎-elim
           (λ w.
           let t = sym (e .active .ensures) ∙ w .0 .taken in
-          subst (λ (z : List ℕ). RowOn on (k .loop .l + 1) f z) (sym (w .5))
-          (row-on-some on f (k .loop .x) (k .loop .l) (w .4 .result) below
-          (w .4 .ensures ∙ ap (loadOf (g .k) (g .d .now)) (w .3 .ensures ∙ w .2 .ensures ∙ lane-place (s .pre .1) (k .loop .l) low t)) (k .loop .inv .1)))
+          subst (λ (z : List ℕ). RowOn on (k .loop .l + 1) f z) (sym (w .4))
+          (row-on-some on f (k .loop .x) (k .loop .l) (w .3 .result) below
+          (w .3 .ensures ∙ ap (loadOf (g .k) (g .d .now)) (w .2 .ensures ∙ lane-place (s .pre .1) (k .loop .l) low t)) (k .loop .inv .1)))
           (λ w. subst (λ (z : List ℕ). RowOn on (k .loop .l + 1) f z) (sym (w .1)) (row-on-none on f (k .loop .x) (k .loop .l) (sym (e .active .ensures) ∙ w .0 .left) (k .loop .inv .1)))
           (c .if1 .came),
     )
@@ -91,10 +88,9 @@ fetch-spec =
     μ-loop
     loop-holds
     active-requires
-    mul-sub
-    element-copy-out-sub
-    sub-requires
-    index-requires
+    mul-place
+    element-copy-out-place
+    place-requires
     load-at-requires
     mul-x
     element-write-x

@@ -34,17 +34,14 @@ loop-holds c = (omega arith, each-none _ _ _)
 active-requires : tie.Need-active-requires Inv-loop μ-loop
 active-requires c κs = search needs
 
-mul-sub : tie.Need-mul-sub Inv-loop μ-loop
-mul-sub c = search needs
+mul-place : tie.Need-mul-place Inv-loop μ-loop
+mul-place c = search needs
 
-element-copy-out-sub : tie.Need-element-copy-out-sub Inv-loop μ-loop
-element-copy-out-sub c = search needs
+element-copy-out-place : tie.Need-element-copy-out-place Inv-loop μ-loop
+element-copy-out-place c = search needs
 
-sub-requires : tie.Need-sub-requires Inv-loop μ-loop
-sub-requires c κs = search needs
-
-index-requires : tie.Need-index-requires Inv-loop μ-loop
-index-requires c κs = search needs
+place-requires : tie.Need-place-requires Inv-loop μ-loop
+place-requires c κs = search needs
 
 mul-put-at : tie.Need-mul-put-at Inv-loop μ-loop
 mul-put-at c = search needs
@@ -54,13 +51,13 @@ element-copy-out-put-at c = search needs
 
 put-at-requires : tie.Need-put-at-requires Inv-loop μ-loop
 put-at-requires c κs =
-    let t = c .before .before .before .before .before in
+    let t = c .before .before .before .before in
     let k = t .before .before .before in
     let s = k .before .before in
     let g = s .args in
     let below : k .loop .l < g .n = omega arith in
-    subst (λ (m : ℕ). c .before .index .result + widthOf (g .k) ≤ m) (sym (same-long k))
-    (subst (λ (i : ℕ). i + widthOf (g .k) ≤ length (g .d .now)) (sym (c .before .index .ensures ∙ c .before .before .sub .ensures)) (lane-fits (s .pre) (k .loop .l) below (sym (t .before .active .ensures) ∙ t .if1 .taken)))
+    subst (λ (m : ℕ). c .before .place .result + widthOf (g .k) ≤ m) (sym (same-long k))
+    (subst (λ (i : ℕ). i + widthOf (g .k) ≤ length (g .d .now)) (sym (c .before .place .ensures)) (lane-fits (s .pre) (k .loop .l) below (sym (t .before .active .ensures) ∙ t .if1 .taken)))
 
 add-l : tie.Need-add-l Inv-loop μ-loop
 add-l c = search needs
@@ -82,7 +79,7 @@ loop-again c =
           (λ w.
           let t = sym (a .active .ensures) ∙ w .0 .taken in
           each-on on step (g .d .now) (k .loop .l) (k .loop .d) (c .if1 .d) t
-          (w .9 ∙ w .6 .ensures ∙ ap (λ (i : ℕ). sets (k .loop .d) i (bytesLane (g .k) (g .x .now) (k .loop .l))) (w .4 .ensures ∙ w .3 .ensures ∙ lane-place (s .pre) (k .loop .l) low t)) (k .loop .inv .1))
+          (w .8 ∙ w .5 .ensures ∙ ap (λ (i : ℕ). sets (k .loop .d) i (bytesLane (g .k) (g .x .now) (k .loop .l))) (w .3 .ensures ∙ lane-place (s .pre) (k .loop .l) low t)) (k .loop .inv .1))
           (λ w. each-off on step (g .d .now) (k .loop .l) (c .if1 .d) (sym (a .active .ensures) ∙ w .0 .left) (w .1 ∙ k .loop .inv .1))
           (c .if1 .came),
     )
@@ -103,10 +100,9 @@ store-spec =
     μ-loop
     loop-holds
     active-requires
-    mul-sub
-    element-copy-out-sub
-    sub-requires
-    index-requires
+    mul-place
+    element-copy-out-place
+    place-requires
     mul-put-at
     element-copy-out-put-at
     put-at-requires
