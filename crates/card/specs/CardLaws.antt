@@ -34,6 +34,16 @@ module _ (d : List ℕ) where
       unfolding readCardOf
       read-done o = simp (eq-eqb _ _ s, h, o)
 
+-- the number, when and only when: 13 of another length or head, then 1 of a value out of range
+pub read-number : (d : List ℕ) → readCardOf d .number ≡ cond (eqb (length d) cardSize && headOkAt d) (cond (launchOkOf (launchAt d)) 0 1) 13
+unfolding readCardOf
+read-number d = by (eqb (length d) cardSize && headOkAt d) (launchOkOf (launchAt d))
+  where
+    by : (h o : Bool) → cond h (cond o (reading 0 (launchAt d)) (reading 1 zeroLaunch)) (reading 13 zeroLaunch) .number ≡ cond h (cond o 0 1) 13
+    by true true = refl
+    by true false = refl
+    by false o = refl
+
 -- what an accepted reading says
 pub record Accepted (d : List ℕ) : Type 0 where
   pub size : length d ≡ cardSize
@@ -64,6 +74,15 @@ module _ (l : Launch) (t : List ℕ) where
   pub write-done : length t ≡ cardSize → launchOkOf l ≡ true → writing 0 (cardOf l) ≡ writeCardOf l t
   unfolding writeCardOf
   write-done s o = simp (eq-eqb _ _ s, o)
+
+-- the number, when and only when
+pub write-number : (l : Launch) (t : List ℕ) → writeCardOf l t .number ≡ cond (eqb (length t) cardSize && launchOkOf l) 0 1
+unfolding writeCardOf
+write-number l t = by (eqb (length t) cardSize && launchOkOf l)
+  where
+    by : (h : Bool) → cond h (writing 0 (cardOf l)) (writing 1 t) .number ≡ cond h 0 1
+    by true = refl
+    by false = refl
 
 -- ---- determinacy
 

@@ -34,7 +34,7 @@ abbrev pub first : List (Row Bool) → ℕ
 first [] = 0
 first (t ∷ ts) = cond (t .is) (t .code) (first ts)
 
--- what every call with a saved state tests, refusals 1 and 2
+-- what a step and a run test first, refusals 1 and 2
 abbrev pub stateTests : List ℕ → Warp → List ℕ → List ℕ → List (Row Bool)
 stateTests k w v d = 1 ⇒ not (runsOkOf (w .fixed) (length k) (length v) (length d)) ∷ 2 ⇒ not (wellFormedOf w) ∷ []
 

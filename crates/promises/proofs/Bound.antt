@@ -22,19 +22,12 @@ started : Reached loop all32 (startOf loop all32)
 unfolding launchOf runsOkOf fixedOkOf
 started = launched (replicate fileWords 0) [] refl
 
-full : stateOf (runAt loop 95 (startOf loop all32) .left) .warp .depth ≡ splitCount
+opened : (runAt loop 95 (startOf loop all32) .steps ≡ 95) × (runAt loop 95 (startOf loop all32) .left .warp .depth ≡ splitCount)
 unfolding launchOf runOf stepsOf stepOf execOf effectOf runsOkOf wellFormedOf fixedOkOf chainOf splitOkOf allZero eachLane allLanes bitAt reachOf openOf vbranchOf joinOf setRpcOf decodeOf operandsOf multiplyOf plainOf vectorOf Ventus.joinOf Ventus.splitsOf Ventus.stopOf Ventus.endPrgOf Ventus.barrierOf
-full = refl
+opened = (refl, refl)
 
 pub bound-reached : BoundReached
-bound-reached =
-    record {
-      kernel = loop;
-      launch = all32;
-      state = stateOf (runAt loop 95 (startOf loop all32) .left);
-      reached = run-reaches loop all32 95 (startOf loop all32) started .reached;
-      depth = full;
-    }
+bound-reached = record { reached = run-reaches loop all32 95 (startOf loop all32) started .reached; steps = opened .0; depth = opened .1 }
 
 pub loop-closes : LoopCloses
 unfolding launchOf runOf stepsOf stepOf execOf effectOf runsOkOf wellFormedOf fixedOkOf chainOf splitOkOf allZero eachLane allLanes bitAt reachOf openOf vbranchOf joinOf setRpcOf decodeOf operandsOf multiplyOf plainOf vectorOf Ventus.joinOf Ventus.splitsOf Ventus.stopOf Ventus.endPrgOf Ventus.barrierOf

@@ -54,12 +54,10 @@ abbrev pub all32 : Launch
 all32 = launchOn 32 0xffffffff
 
 -- a reached state with as many splits open as there is room for
-pub record Full : Type 0 where
-  pub kernel : List ℕ
-  pub launch : Launch
-  pub state : State
-  pub reached : Reached kernel launch state
-  pub depth : state .warp .depth ≡ splitCount
+pub record Full (r : Ran) : Type 0 where
+  pub reached : Reached loop all32 (stateOf (r .left))
+  pub steps : r .steps ≡ 95
+  pub depth : r .left .warp .depth ≡ splitCount
 
 -- the warp ended, all splits closed and all lanes active again
 pub record Closed (r : Ran) : Type 0 where
@@ -70,9 +68,9 @@ pub record Closed (r : Ran) : Type 0 where
 
 -- ---- promises
 
--- The bound is reached, by the loop after 95 steps.
+-- The bound is reached.
 abbrev pub BoundReached : Type 0
-BoundReached = Full
+BoundReached = Full (runAt loop 95 (startOf loop all32))
 
 abbrev pub LoopCloses : Type 0
 LoopCloses = Closed (runAt loop 163 (startOf loop all32))

@@ -1,12 +1,10 @@
 -- The trace cards P1 to P12: one table, one statement, which antt computes.
 use Prim.Native.Nat.{ℕ}
 use mathlib.Core.Path.{_≡_, refl}
-use mathlib.Core.Bool.{Bool, true, false, cond}
 use mathlib.Core.List.{List, [], _∷_, _++_}
 use lib.ListN.{getD, replicate}
-use Rattle.word.specs.Word.{flagOf, applyOf, holdsOf}
+use Rattle.word.specs.Word.{flagOf, applyOf}
 use Rattle.word.specs.declared.Op.the-variants.{Add, Div, Rem}
-use Rattle.word.specs.declared.Cond.the-variants.{Lt, Ltu}
 use Rattle.isa.specs.Fields.{x}
 use Rattle.isa.specs.Decode.{decodeOf}
 use Rattle.isa.specs.Scalar.{jalrOf, branchOf, loadOf, storeOf, shiftOf, opImmOf, byFunct3, opOf, fenceOf, csrOf}
@@ -19,13 +17,13 @@ use Rattle.lanes.specs.Lanes.{eachLane, allLanes}
 use Rattle.memory.specs.Bytes.{leBytes}
 use Rattle.warp.specs.declared.Warp.{Warp}
 use Rattle.warp.specs.declared.Split.{Split}
-use Rattle.warp.specs.Warp.{zeroSplit, withPc, withRpc, withSplits, reachOf}
+use Rattle.warp.specs.Warp.{zeroSplit, reachOf}
 use Rattle.warp.specs.WellFormed.{fixedOkOf, splitOkOf, chainOf, allZero, wellFormedOf}
 use Rattle.warp.specs.Splits as splits
 use Rattle.definition.specs.Outcome.{Outcome}
 use Rattle.definition.specs.Exec.{effectOf, execOf}
 use Rattle.definition.specs.Step.{runsOkOf, stepOf}
-use Rattle.definition.specs.Calls.{launchedOf}
+use Rattle.definition.specs.Calls.{launchedOf, Ran, stepsOf, runOf}
 
 pub record Case : Type 0 where
   pub got : List ℕ
@@ -35,16 +33,13 @@ infixr 68 _gives_
 abbrev pub _gives_ : List ℕ → List ℕ → Case
 a gives b = record { got = a; is = b }
 
--- ---- the machine of the cards: lanes of mask m, code at 80000000, data at 1000; FENCE where nothing else stands
+-- ---- the machine of the cards: lanes of mask m, code and entry at 80000000, data at 1000; FENCE where nothing else stands
 
 abbrev nop : ℕ
 nop = 0x0000000F
 
-abbrev kernel : ℕ → List ℕ → List ℕ
-kernel before words = replicate before nop ++ words
-
-abbrev warp : ℕ → ℕ → Warp
-warp m pc =
+abbrev warp : ℕ → Warp
+warp m =
     launchedOf (record {
       fixed = record {
         numt = 4;
@@ -61,70 +56,83 @@ warp m pc =
         gidy = 0;
         gidz = 0;
       };
-      entry = pc;
+      entry = 0x80000000;
     })
 
 -- v1 and v2 in four lanes
 abbrev file : List ℕ → List ℕ → List ℕ
 file v1 v2 = replicate 32 0 ++ (v1 ++ (replicate 28 0 ++ (v2 ++ replicate 956 0)))
 
--- the answer, the PC, the mask, the open splits, and the first split's else mask and else PC
-abbrev view : Outcome → List ℕ
-view o =
-    let s : Split = getD (o .warp .splits) 0 zeroSplit in
-    o .code ∷ o .warp .pc ∷ o .warp .mask ∷ o .warp .depth ∷ s .elsemask ∷ s .elsepc ∷ []
+-- a kernel of one word, one step
+abbrev step : ℕ → ℕ → List ℕ → List ℕ → List ℕ → Outcome
+step word m v1 v2 d = stepOf (word ∷ []) (warp m) (file v1 v2) d
 
--- ---- P3 to P6: VBEQ at 80000010, JOIN at 80000030
-abbrev words : List ℕ
-words = kernel 4 (0x0020885B ∷ (replicate 7 nop ++ (0x0000205B ∷ [])))
+-- ---- P1 to P6 and P12: one kernel, looked at after n steps
+-- At 80000008 setrpc x0, x5, 16, x5 being 80000020; at 80000010 VBEQ; at 80000030 `last`, JOIN but for P12; at 80000034 ENDPRG.
 
-abbrev counted : List ℕ
-counted = file (0 ∷ 1 ∷ 2 ∷ 3 ∷ []) (2 ∷ 2 ∷ 2 ∷ 2 ∷ [])
+abbrev kernel : ℕ → List ℕ
+kernel last = 0x00000297 ∷ 0x02028293 ∷ 0x0102B05B ∷ nop ∷ 0x0020885B ∷ (replicate 7 nop ++ (last ∷ 0x0000400B ∷ []))
 
-abbrev branched : Outcome
-branched = stepOf words (withRpc 0x80000030 (warp 0xF 0x80000010)) counted []
+abbrev after : ℕ → ℕ → Ran
+after n last = runOf (kernel last) n (warp 0xF) (file (0 ∷ 1 ∷ 2 ∷ 3 ∷ []) (2 ∷ 2 ∷ 2 ∷ 2 ∷ [])) []
 
--- the warp that P3 leaves, at the JOIN, in phase one or two
-abbrev parted : Bool → Warp
-parted second =
-    withPc 0x80000030
-    (withSplits (record { rpc = 0x80000030; full = 0xF; elsemask = 4; elsepc = 0x80000020; phasetwo = second } ∷ replicate 30 zeroSplit) 1 (cond second 4 0xB)
-    (withRpc 0x80000030 (warp 0xF 0x80000010)))
+-- the answer, the count, PC, mask, open splits, RPC, x0, ended
+abbrev view : Ran → List ℕ
+view r =
+    let w : Warp = r .left .warp in
+    r .left .code ∷ r .steps ∷ w .pc ∷ w .mask ∷ w .depth ∷ w .rpc ∷ getD (w .x) 0 1 ∷ flagOf (w .ended) ∷ []
 
-abbrev joined : Warp → Outcome
-joined w = stepOf words w counted []
+-- the first split record: rpc, full mask, else mask, else PC, phase two
+abbrev split : Ran → List ℕ
+split r =
+    let s : Split = getD (r .left .warp .splits) 0 zeroSplit in
+    s .rpc ∷ s .full ∷ s .elsemask ∷ s .elsepc ∷ flagOf (s .phasetwo) ∷ []
+
+abbrev join : ℕ
+join = 0x0000205B
+
+abbrev endprg : ℕ
+endprg = 0x0000400B
+
+-- ---- P7: VBLT and VBLTU v1, v2, 16 with v1 −1 and v2 0 in all lanes
+abbrev compared : ℕ → List ℕ
+compared word =
+    let o : Outcome = step word 0xF (replicate 4 0xFFFFFFFF) (replicate 4 0) [] in
+    o .code ∷ o .warp .pc ∷ []
 
 -- ---- P10: VSW12 of v2 at v1's addresses, lane 3's one byte past the end of 16 bytes
 abbrev stored : Outcome
-stored = stepOf (kernel 0 (0x0020E07B ∷ [])) (warp 0xF 0x80000000) (file (0x1000 ∷ 0x1004 ∷ 0x1008 ∷ 0x100D ∷ []) (1 ∷ 1 ∷ 1 ∷ 1 ∷ [])) (replicate 16 7)
+stored = step 0x0020E07B 0xF (0x1000 ∷ 0x1004 ∷ 0x1008 ∷ 0x100D ∷ []) (1 ∷ 1 ∷ 1 ∷ 1 ∷ []) (replicate 16 7)
 
 -- ---- P11: vmv.x.s x5, v1 over two lanes
 abbrev taken : List ℕ → Outcome
-taken v1 = stepOf (kernel 0 (0x421022D7 ∷ [])) (warp 3 0x80000000) (file v1 (0 ∷ 0 ∷ 0 ∷ 0 ∷ [])) []
-
--- ---- P12: ENDPRG in the split that P3 opened
-abbrev ended : Outcome
-ended = stepOf (kernel 12 (0x0000400B ∷ [])) (parted false) counted []
+taken v1 = step 0x421022D7 3 v1 (0 ∷ 0 ∷ 0 ∷ 0 ∷ []) []
 
 abbrev pub cases : List Case
 cases =
-    -- P1, P2
-    (wordOf I.Join ∷ wordOf I.EndPrg ∷ []) gives (0x0000205B ∷ 0x0000400B ∷ [])
+    -- P1, P2: the words, then what they do
+    (wordOf I.Join ∷ wordOf I.EndPrg ∷ []) gives (join ∷ endprg ∷ [])
+    ∷ view (after 20 join) gives (0 ∷ 20 ∷ 0x80000034 ∷ 0xF ∷ 0 ∷ 0x80000030 ∷ 0 ∷ 1 ∷ [])
     ∷ (wordOf (I.SetRpc (x 0) (x 5) 16) ∷ []) gives (0x0102B05B ∷ [])
+    ∷ view (after 3 join) gives (0 ∷ 3 ∷ 0x8000000C ∷ 0xF ∷ 0 ∷ 0x80000030 ∷ 0 ∷ 0 ∷ [])
     -- P3, P4, P5, P6
-    ∷ view branched gives (0 ∷ 0x80000014 ∷ 0xB ∷ 1 ∷ 4 ∷ 0x80000020 ∷ [])
-    ∷ view (joined (parted false)) gives (0 ∷ 0x80000020 ∷ 4 ∷ 1 ∷ 4 ∷ 0x80000020 ∷ [])
-    ∷ view (joined (parted true)) gives (0 ∷ 0x80000030 ∷ 0xF ∷ 0 ∷ 0 ∷ 0 ∷ [])
-    ∷ view (joined (warp 0xF 0x80000030)) gives (0 ∷ 0x80000034 ∷ 0xF ∷ 0 ∷ 0 ∷ 0 ∷ [])
+    ∷ view (after 5 join) gives (0 ∷ 5 ∷ 0x80000014 ∷ 0xB ∷ 1 ∷ 0x80000030 ∷ 0 ∷ 0 ∷ [])
+    ∷ split (after 5 join) gives (0x80000030 ∷ 0xF ∷ 4 ∷ 0x80000020 ∷ 0 ∷ [])
+    ∷ view (after 13 join) gives (0 ∷ 13 ∷ 0x80000020 ∷ 4 ∷ 1 ∷ 0x80000030 ∷ 0 ∷ 0 ∷ [])
+    ∷ split (after 13 join) gives (0x80000030 ∷ 0xF ∷ 4 ∷ 0x80000020 ∷ 1 ∷ [])
+    ∷ view (after 18 join) gives (0 ∷ 18 ∷ 0x80000030 ∷ 0xF ∷ 0 ∷ 0x80000030 ∷ 0 ∷ 0 ∷ [])
+    ∷ split (after 18 join) gives (0 ∷ 0 ∷ 0 ∷ 0 ∷ 0 ∷ [])
+    ∷ view (after 19 join) gives (0 ∷ 19 ∷ 0x80000034 ∷ 0xF ∷ 0 ∷ 0x80000030 ∷ 0 ∷ 0 ∷ [])
     -- P7, P8, P9
-    ∷ (flagOf (holdsOf Lt 0xFFFFFFFF 0) ∷ flagOf (holdsOf Ltu 0xFFFFFFFF 0) ∷ []) gives (1 ∷ 0 ∷ [])
+    ∷ compared 0x0020C85B gives (0 ∷ 0x80000010 ∷ [])
+    ∷ compared 0x0020E85B gives (0 ∷ 0x80000004 ∷ [])
     ∷ (applyOf Add 0xFFFFFFFF 1 ∷ []) gives (0 ∷ [])
     ∷ (applyOf Div 7 0 ∷ applyOf Rem 7 0 ∷ applyOf Div 0x80000000 0xFFFFFFFF ∷ applyOf Rem 0x80000000 0xFFFFFFFF ∷ []) gives (0xFFFFFFFF ∷ 7 ∷ 0x80000000 ∷ 0 ∷ [])
     -- P10, P11, P12
     ∷ (stored .code ∷ stored .bytes) gives (9 ∷ replicate 16 7)
     ∷ (taken (5 ∷ 5 ∷ 0 ∷ 0 ∷ []) .code ∷ getD (taken (5 ∷ 5 ∷ 0 ∷ 0 ∷ []) .warp .x) 5 0 ∷ []) gives (0 ∷ 5 ∷ [])
     ∷ (taken (5 ∷ 6 ∷ 0 ∷ 0 ∷ []) .code ∷ []) gives (10 ∷ [])
-    ∷ (ended .code ∷ []) gives (11 ∷ [])
+    ∷ view (after 13 endprg) gives (11 ∷ 12 ∷ 0x80000030 ∷ 0xB ∷ 1 ∷ 0x80000030 ∷ 0 ∷ 0 ∷ [])
     ∷ []
 
 -- every case of a table holds
@@ -133,5 +141,5 @@ Hold [] = Unit {0}
 Hold (c ∷ cs) = (c .got ≡ c .is) × Hold cs
 
 pub trace-cards : Hold cases
-unfolding decodeOf jalrOf branchOf loadOf storeOf opImmOf opOf fenceOf csrOf vectorOf operandsOf plainOf multiplyOf shiftOf byFunct3 joinOf splitsOf endPrgOf barrierOf stopOf laneAccessOf privateOf wordOf bitAt eachLane allLanes leBytes reachOf fixedOkOf splitOkOf chainOf allZero wellFormedOf splits.openOf splits.vbranchOf splits.joinOf effectOf execOf runsOkOf stepOf
-trace-cards = (refl, (refl, (refl, (refl, (refl, (refl, (refl, (refl, (refl, (refl, (refl, (refl, (refl, tt)))))))))))))
+unfolding decodeOf jalrOf branchOf loadOf storeOf opImmOf opOf fenceOf csrOf vectorOf operandsOf plainOf multiplyOf shiftOf byFunct3 joinOf splitsOf endPrgOf barrierOf stopOf laneAccessOf privateOf wordOf bitAt eachLane allLanes leBytes reachOf fixedOkOf splitOkOf chainOf allZero wellFormedOf splits.openOf splits.vbranchOf splits.joinOf splits.setRpcOf effectOf execOf runsOkOf stepOf stepsOf runOf
+trace-cards = (refl, (refl, (refl, (refl, (refl, (refl, (refl, (refl, (refl, (refl, (refl, (refl, (refl, (refl, (refl, (refl, (refl, (refl, (refl, tt)))))))))))))))))))
