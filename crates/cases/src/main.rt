@@ -1,11 +1,34 @@
 // Runs the machine on the stored cases and writes a line for each. reference/CASES-FORMAT.md says what a case file holds and what a line says.
 use warp::Launch;
 
+// The kinds of case, by their numbers 1 to 7.
+enum Kind {
+    Launch,
+    Saved,
+    ReadCard,
+    Release,
+    WriteCard,
+    ChecksItself,
+    DataOnly,
+}
+
+fn kind_of(n: u32) -> Kind {
+    match n {
+        2 => Kind::Saved,
+        3 => Kind::ReadCard,
+        4 => Kind::Release,
+        5 => Kind::WriteCard,
+        6 => Kind::ChecksItself,
+        7 => Kind::DataOnly,
+        _ => Kind::Launch,
+    }
+}
+
 // What the last field says of a run, by the kind of its case.
-fn run_digest(kind: u32, state: &[u32], vector: &[u32], bytes: &[u8]) -> u32 {
+fn run_digest(kind: Kind, state: &[u32], vector: &[u32], bytes: &[u8]) -> u32 {
     match kind {
-        6 => if 3 < state.len() { state[3] } else { 0 },
-        7 => case_io::mixed_bytes(case_io::DIGEST, bytes),
+        Kind::ChecksItself => if 3 < state.len() { state[3] } else { 0 },
+        Kind::DataOnly => case_io::mixed_bytes(case_io::DIGEST, bytes),
         _ => case_io::mixed_bytes(
             case_io::mixed_words(case_io::mixed_words(case_io::DIGEST, state), vector),
             bytes,
@@ -13,25 +36,25 @@ fn run_digest(kind: u32, state: &[u32], vector: &[u32], bytes: &[u8]) -> u32 {
     }
 }
 
-// A saved state is launched already.
-fn launch_code(
-    kind: u32,
+// 0 of a saved state, which was launched before.
+fn launch_unless_saved(
+    kind: Kind,
     card: &[u8],
     kernel: &[u32],
     vector: &mut [u32],
     bytes: &[u8],
     state: &mut [u32],
 ) -> u32 {
-    if kind == 2 {
-        return 0;
+    match kind {
+        Kind::Saved => 0,
+        _ => capi::bench_launch(card, kernel, vector, bytes, state),
     }
-    capi::bench_launch(card, kernel, vector, bytes, state)
 }
 
 // After a refused launch the state is all zeros, which the run refuses in turn: nothing changes.
 fn run_lent(
     number: u32,
-    kind: u32,
+    kind: Kind,
     card: &[u8],
     state: &mut [u32],
     kernel: &[u32],
@@ -40,14 +63,14 @@ fn run_lent(
     budget: u32,
 ) {
     let mut steps = [0u32; 1];
-    let launched = launch_code(kind, card, kernel, vector, bytes, state);
+    let launched = launch_unless_saved(kind, card, kernel, vector, bytes, state);
     let ran = capi::bench_run(state, kernel, vector, bytes, budget, &mut steps);
     let code = if launched == 0 { ran } else { launched };
     let last = run_digest(kind, state, vector, bytes);
     case_io::put_state_line(number, code, steps[0], state, last);
 }
 
-fn run_case(file: i32, number: u32, kind: u32, card: &[u8], state: &mut [u32]) {
+fn run_case(file: i32, number: u32, kind: Kind, card: &[u8], state: &mut [u32]) {
     let mut kernel = [0u32; 16385];
     let mut bytes = [0u8; 65537];
     let mut vector = [0u32; 1056];
@@ -67,17 +90,17 @@ fn run_case(file: i32, number: u32, kind: u32, card: &[u8], state: &mut [u32]) {
     );
 }
 
-fn launch_case(file: i32, number: u32, kind: u32) {
+fn launch_case(file: i32, number: u32, kind: Kind) {
     let mut card = [0u8; 100];
     let c = case_io::read_card(file, &mut card);
     let mut state = [0u32; 207];
     run_case(file, number, kind, &card[..c], &mut state);
 }
 
-fn state_case(file: i32, number: u32, kind: u32) {
+fn state_case(file: i32, number: u32) {
     let mut state = [0u32; 256];
     let s = case_io::read_state(file, &mut state);
-    run_case(file, number, kind, b"", &mut state[..s]);
+    run_case(file, number, Kind::Saved, b"", &mut state[..s]);
 }
 
 fn read_card_case(file: i32, number: u32) {
@@ -148,14 +171,14 @@ fn write_card_case(file: i32, number: u32) {
 }
 
 fn next_case(file: i32, number: u32) {
-    let kind = case_io::next_byte(file);
+    let kind = kind_of(case_io::next_byte(file));
     // The body's length, which its kind's parts give again.
     case_io::next_word(file);
     match kind {
-        2 => state_case(file, number, kind),
-        3 => read_card_case(file, number),
-        4 => release_case(file, number),
-        5 => write_card_case(file, number),
+        Kind::Saved => state_case(file, number),
+        Kind::ReadCard => read_card_case(file, number),
+        Kind::Release => release_case(file, number),
+        Kind::WriteCard => write_card_case(file, number),
         _ => launch_case(file, number, kind),
     }
 }
