@@ -5,11 +5,10 @@
 use crate::case::{evaluate, launch_words, Case, Data, Kernel, Shown, Vector};
 use crate::isa::{ENDPRG, JOIN};
 use crate::state::{Fixed, Launch, Split, Warp};
-use crate::table::{variants, Shape, Variant, RD, RS1, RS2};
+use crate::table::{
+    enc_b, enc_i, enc_j, enc_s, rd, rs1, rs2, Shape, Table, Variant, BARRIER, NOP, RD, RS1, RS2,
+};
 use crate::{card, saved};
-
-pub const NOP: u32 = 0x13;
-const BARRIER: u32 = 0x0400_400b;
 
 /// xorshift64*, from fixed seeds.
 pub struct Rng(u64);
@@ -52,51 +51,6 @@ const CORNERS: [u32; 10] =
     [0, 1, 2, 31, 32, 0x7fff_ffff, 0x8000_0000, 0x8000_0001, 0xffff_fffe, 0xffff_ffff];
 
 // Words.
-
-pub fn enc_i(imm: i32) -> u32 {
-    (imm as u32 & 0xfff) << 20
-}
-pub fn enc_s(imm: i32) -> u32 {
-    let imm = imm as u32;
-    (imm >> 5 & 0x7f) << 25 | (imm & 31) << 7
-}
-pub fn enc_b(off: i32) -> u32 {
-    let o = off as u32;
-    (o >> 12 & 1) << 31 | (o >> 5 & 63) << 25 | (o >> 1 & 15) << 8 | (o >> 11 & 1) << 7
-}
-pub fn enc_j(off: i32) -> u32 {
-    let o = off as u32;
-    (o >> 20 & 1) << 31 | (o >> 1 & 0x3ff) << 21 | (o >> 11 & 1) << 20 | (o >> 12 & 0xff) << 12
-}
-pub fn rd(n: u32) -> u32 {
-    n << 7
-}
-pub fn rs1(n: u32) -> u32 {
-    n << 15
-}
-pub fn rs2(n: u32) -> u32 {
-    n << 20
-}
-
-/// The variants by name.
-pub struct Table {
-    pub all: Vec<Variant>,
-}
-
-impl Table {
-    pub fn whole() -> Table {
-        Table { all: variants() }
-    }
-    pub fn get(&self, name: &str) -> &Variant {
-        self.all.iter().find(|v| v.name == name).unwrap_or_else(|| panic!("no variant {name}"))
-    }
-    pub fn fixed(&self, name: &str) -> u32 {
-        self.get(name).fixed
-    }
-    fn with(&self, keep: impl Fn(&Variant) -> bool) -> Vec<&Variant> {
-        self.all.iter().filter(|v| keep(v)).collect()
-    }
-}
 
 fn touches_memory(v: &Variant) -> bool {
     use Shape::{Load, PrivateLoad, PrivateStore, Store, Vload, Vstore};
