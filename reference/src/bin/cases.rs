@@ -56,7 +56,7 @@ fn check(file: &str) -> Result<(), String> {
     let differs = stored.iter().zip(&all_cases(0)).position(|(a, b)| a != b);
     Err(match differs {
         Some(n) => format!("{file}: differs from what is made here, first in case {n}"),
-        None => format!("{file}: has {} cases, another number than is made here", stored.len()),
+        None => format!("{file}: differs from what is made here, after {} cases", stored.len()),
     })
 }
 
