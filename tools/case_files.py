@@ -1,19 +1,53 @@
-"""What the scripts that make kernels and case files share: an encoder of assembler text, cards, case records
-(reference/CASES-FORMAT.md), runs by QEMU, and the comparison with the reference before a file is written.
+"""What the scripts that make stored files share: their command lines, an encoder of assembler text and binutils'
+reading of its words, cards, case records (reference/CASES-FORMAT.md), runs by QEMU, and the comparison with the
+reference before a file is written.
 
 An instruction is written as binutils prints it (objdump -M no-aliases,numeric), a jump with its distance in
 bytes. Ventus's own words have the names of docs/DEFINITION.md and the same way of writing.
 """
-import os, re, struct, subprocess, sys, tempfile
-
-from decoder_cases import OBJDUMP, disassemble
+import os, re, shutil, struct, subprocess, sys, tempfile
 
 ROOT = os.path.dirname(os.path.dirname(os.path.abspath(__file__)))
 DATA_FOLDER = os.path.join(ROOT, 'crates', 'cases', 'data')
 QEMU = 'qemu-riscv32'
+OBJDUMP = 'riscv64-unknown-elf-objdump'
+AS = 'riscv64-unknown-elf-as'
 # where a Linux user program can have its code and data
 CODE, DATA = 0x10000, 0x20000
 LANES = 32
+# the kinds of a record that are made here
+CHECKS_ITSELF, DATA_ONLY = 6, 7
+
+# ---- the command line
+
+
+def usage(script, wrong=''):
+    """ends the script, whose text it is given, with its usage: all that follows `usage:`"""
+    sys.stderr.write(wrong and wrong + '\n')
+    sys.stderr.write(script[script.index('usage:'):])
+    sys.exit(2)
+
+
+def executable(path, script):
+    """the whole path, if it is that of an executable file"""
+    if not (os.path.isfile(path) and os.access(path, os.X_OK)):
+        usage(script, '%s: not an executable file' % path)
+    return os.path.abspath(path)
+
+
+def output_of(*command, **options):
+    """what a run of the program prints; ends the script if it fails"""
+    done = subprocess.run(command, capture_output=True, **options)
+    if done.returncode != 0:
+        sys.exit('%s fails: %s' % (' '.join(command), done.stderr.decode()))
+    return done.stdout
+
+
+def need_tools(*tools):
+    missing = [tool for tool in tools if not shutil.which(tool)]
+    if missing:
+        sys.exit('not installed: ' + ', '.join(missing))
+
 
 # ---- words
 
@@ -142,6 +176,23 @@ def word(text):
     return bits
 
 
+def disassemble(words):
+    """binutils' text of each word, as code of an RV32 object with I, M, Zicsr, Zifencei and V"""
+    with tempfile.TemporaryDirectory() as folder:
+        source, code = (os.path.join(folder, name) for name in ('words.s', 'words.o'))
+        with open(source, 'w') as f:
+            f.write('.option norelax\n.option norvc\n.text\n')
+            f.writelines('.insn 4, 0x%08x\n' % w for w in words)
+        output_of(AS, '-march=rv32imv_zicsr_zifencei', '-mabi=ilp32', '-o', code, source)
+        out = output_of(OBJDUMP, '-d', '-z', '-M', 'no-aliases,numeric', code).decode()
+    # address, word, text
+    rows = re.findall(r'^\s*([0-9a-f]+):\s+([0-9a-f]{8})\s+(.*)$', out, re.M)
+    read = {int(address, 16): (int(word, 16), text.strip()) for address, word, text in rows}
+    for at, w in enumerate(words):
+        assert read[4 * at][0] == w, (hex(w), hex(read[4 * at][0]))
+    return [read[4 * at][1] for at in range(len(words))]
+
+
 def check_encoder(texts):
     """every different text's word, as binutils reads it back; returns how many were held against it"""
     texts = sorted({t for t in texts if parse(t)[0] not in VENTUS})
@@ -178,8 +229,8 @@ def packed(words, order):
 
 def record(kind, words, data, budget=65536):
     """a launch of all lanes; the vector file's four words only say its size, since a launch clears it"""
-    sheet = card(LANES)
-    body = packed([len(sheet)], '>') + sheet
+    launch_card = card(LANES)
+    body = packed([len(launch_card)], '>') + launch_card
     body += packed([len(words), len(words), *words, 0], '>')
     body += packed([len(data), len(data)], '>') + data + packed([0], '>')
     body += packed([1024, 0, 0, 0, budget], '>')
@@ -208,7 +259,7 @@ def write_case_file(name, records, expected, program):
     with tempfile.NamedTemporaryFile() as f:
         f.write(content)
         f.flush()
-        answers = subprocess.run([program, 'answer', f.name], check=True, capture_output=True, text=True).stdout.splitlines(True)
+        answers = output_of(program, 'answer', f.name).decode().splitlines(True)
     differ = [pair for pair in zip(expected, answers) if pair[0] != pair[1]]
     for pair in differ:
         print('expected %sreference %s' % pair, end='')
@@ -219,10 +270,18 @@ def write_case_file(name, records, expected, program):
     print('%s: %d cases, %d bytes' % (name, len(records), len(content)))
 
 
-def compare_case_file(name, records):
-    with open(os.path.join(DATA_FOLDER, name), 'rb') as f:
-        if f.read() != case_file(records):
+def check_stored(path, content):
+    """ends the script if the file is missing or has other bytes"""
+    name = os.path.relpath(path, ROOT)
+    if not os.path.isfile(path):
+        sys.exit('%s: missing' % name)
+    with open(path, 'rb') as f:
+        if f.read() != content:
             sys.exit('%s: not what is made here' % name)
+
+
+def check_case_file(name, records):
+    check_stored(os.path.join(DATA_FOLDER, name), case_file(records))
     print('%s: %d cases, as made here' % (name, len(records)))
 
 
@@ -256,5 +315,6 @@ def run_qemu(words, data, *options):
 
 
 def print_versions():
+    need_tools(QEMU, OBJDUMP, AS)
     for tool in (QEMU, OBJDUMP):
-        print(subprocess.run([tool, '--version'], check=True, capture_output=True, text=True).stdout.split('\n')[0])
+        print(output_of(tool, '--version').decode().split('\n')[0])

@@ -7,12 +7,13 @@ where the rules (docs/DEFINITION.md) leave out or change what binutils knows, ar
 small tables below, written from the rules alone. Nothing here comes from
 the decoder under test.
 
-usage: decoder_cases.py CRATE_FOLDER
+usage: decoder_cases.py CRATE_FOLDER             writes both; needs binutils-riscv64-unknown-elf
+       decoder_cases.py --check CRATE_FOLDER     says whether the words are what is made here, and
+                                                 if binutils is installed what each word is too
 """
-import os, random, re, struct, subprocess, sys, tempfile
+import collections, os, random, re, shutil, sys
 
-OBJDUMP = 'riscv64-unknown-elf-objdump'
-AS = 'riscv64-unknown-elf-as'
+import case_files
 
 OPS = ['add', 'sub', 'rsub', 'sll', 'srl', 'sra', 'slt', 'sltu', 'and', 'or', 'xor', 'mul', 'mulh', 'mulhsu', 'mulhu',
        'div', 'divu', 'rem', 'remu', 'min', 'minu', 'max', 'maxu', 'seq', 'sne', 'sle', 'sleu', 'sgt', 'sgtu', 'move']
@@ -96,21 +97,18 @@ for names, forms in (('seq sne sleu sle', 'vv vx vi'), ('sltu slt', 'vv vx'), ('
 UNSIGNED = {'vsll.vi', 'vsrl.vi', 'vsra.vi'}
 
 
-def last(form, s):
-    """the last operand: its field, and 0 VV, 1 VX, 2 VI"""
+def source(form, text):
+    """the source operand that makes the form: its field, and 0 VV, 1 VX, 2 VI"""
     if form == 'vv':
-        return reg(s, 'v'), 0
+        return reg(text, 'v'), 0
     if form == 'vx':
-        return reg(s, 'x'), 1
-    return num(s) & 31, 2
+        return reg(text, 'x'), 1
+    return num(text) & 31, 2
 
 
-def standard(w, pc, text):
-    parts = text.split(None, 1)
-    name = parts[0]
-    args = [a for a in re.split(r',', parts[1].split('#')[0].split('<')[0].strip())] if len(parts) > 1 else []
-    if name in ('lui', 'auipc'):
-        return line('lu' if name == 'lui' else 'au', 0, reg(args[0], 'x'), 0, 0, num(args[1]) & 0xFFFFF)
+# each of these gives a line, or nothing if the name is not one of its own
+
+def jump(name, args, pc):
     if name == 'jal':
         return line('jl', 0, reg(args[0], 'x'), 0, 0, (int(args[1], 16) - pc) & 0x1FFFFF)
     if name == 'jalr':
@@ -118,12 +116,20 @@ def standard(w, pc, text):
         return line('jr', 0, reg(args[0], 'x'), base, 0, off & 0xFFF)
     if name in ('b' + c for c in CONDS):
         return line('br', CONDS.index(name[1:]), 0, reg(args[0], 'x'), reg(args[1], 'x'), (int(args[2], 16) - pc) & 0x1FFF)
+
+
+def access(name, args):
     if name in ('l' + o for o in LOADS):
         off, base = mem(args[1])
         return line('ld', LOADS.index(name[1:]), reg(args[0], 'x'), base, 0, off & 0xFFF)
     if name in ('s' + o for o in STORES):
         off, base = mem(args[1])
         return line('st', STORES.index(name[1:]), 0, base, reg(args[0], 'x'), off & 0xFFF)
+
+
+def operation(name, args):
+    if name in ('lui', 'auipc'):
+        return line('lu' if name == 'lui' else 'au', 0, reg(args[0], 'x'), 0, 0, num(args[1]) & 0xFFFFF)
     if name in OPIMM:
         o = 'sltu' if name == 'sltiu' else name[:-1]
         if o in ('sll', 'srl', 'sra') and num(args[2]) > 31:
@@ -131,48 +137,39 @@ def standard(w, pc, text):
         return line('oi', OPS.index(o), reg(args[0], 'x'), reg(args[1], 'x'), 0, num(args[2]) & 0xFFF)
     if name in OPREG:
         return line('or', OPS.index(name), reg(args[0], 'x'), reg(args[1], 'x'), reg(args[2], 'x'))
+
+
+def csr(name, args, w):
     if re.fullmatch(r'csrr[wsc]i?', name):
-        k = CSRS.index(name[3:5])
+        immediate = name.endswith('i')
+        src = num(args[2]) if immediate else reg(args[2], 'x')
         # the CSR's number from the word: binutils prints some by name
-        src = num(args[2]) if name.endswith('i') else reg(args[2], 'x')
-        return line('ci' if name.endswith('i') else 'cr', k, reg(args[0], 'x'), src, 0, field(w, 20, 12))
-    if name in VECTOR and 'v0.t' not in args:
+        return line('ci' if immediate else 'cr', CSRS.index(name[3:5]), reg(args[0], 'x'), src, 0, field(w, 20, 12))
+
+
+def vector(name, args):
+    if 'v0.t' in args:
+        return REFUSED
+    if name in VECTOR:
         op, form = VECTOR[name]
-        src, kind = last(form, args[2])
+        src, kind = source(form, args[2])
         return line('ve', OPS.index(op), reg(args[0], 'v'), src, reg(args[1], 'v'), kind)
     if name in ('vmv.v.v', 'vmv.v.x', 'vmv.v.i'):
-        src, kind = last('v' + name[-1], args[1])
+        src, kind = source('v' + name[-1], args[1])
         return line('vm', 0, reg(args[0], 'v'), src, 0, kind)
     if name == 'vmv.x.s':
         return line('xs', 0, reg(args[0], 'x'), 0, reg(args[1], 'v'))
     if name == 'vmv.s.x':
         return line('sx', 0, reg(args[0], 'v'), reg(args[1], 'x'))
-    if name == 'vid.v' and 'v0.t' not in args:
+    if name == 'vid.v':
         return line('id', 0, reg(args[0], 'v'))
-    return REFUSED
 
 
-def disassemble(words):
-    """binutils' text of each word, as code of an RV32 object with I, M, Zicsr, Zifencei and V"""
-    with tempfile.TemporaryDirectory() as d:
-        s = os.path.join(d, 'w.s')
-        with open(s, 'w') as f:
-            f.write('.option norelax\n.option norvc\n.text\n')
-            f.writelines('.insn 4, 0x%08x\n' % w for w in words)
-        o = os.path.join(d, 'w.o')
-        subprocess.run([AS, '-march=rv32imv_zicsr_zifencei', '-mabi=ilp32', '-o', o, s], check=True)
-        out = subprocess.run([OBJDUMP, '-d', '-z', '-M', 'no-aliases,numeric', o], check=True, capture_output=True, text=True).stdout
-    texts = {}
-    for l in out.split('\n'):
-        m = re.match(r'\s*([0-9a-f]+):\s+([0-9a-f]{8})\s+(.*)$', l)
-        if m:
-            texts[int(m.group(1), 16)] = (int(m.group(2), 16), m.group(3).strip())
-    res = []
-    for i, w in enumerate(words):
-        got, text = texts[4 * i]
-        assert got == w, (hex(w), hex(got))
-        res.append(text)
-    return res
+def standard(w, pc, text):
+    """the line of a word at a PC, of which binutils has the text"""
+    name, *rest = text.split(None, 1)
+    args = re.sub('[#<].*', '', rest[0]).strip().split(',') if rest else []
+    return jump(name, args, pc) or access(name, args) or operation(name, args) or csr(name, args, w) or vector(name, args) or REFUSED
 
 
 def fence(w):
@@ -194,7 +191,7 @@ def expected(words):
         else:
             ask.append(i)
     at = 0
-    for i, text in zip(ask, disassemble([words[i] for i in ask])):
+    for i, text in zip(ask, case_files.disassemble([words[i] for i in ask])):
         res[i] = standard(words[i], at, text)
         at += 4
     return res
@@ -243,19 +240,29 @@ def words(rng):
     return out
 
 
-def main():
-    crate = sys.argv[1]
-    ws = words(random.Random(20250321))
-    lines = expected(ws)
-    with open(os.path.join(crate, 'stdin'), 'wb') as f:
-        f.write(b''.join(struct.pack('<I', w) for w in ws))
-    with open(os.path.join(crate, 'stdout'), 'w') as f:
-        f.writelines(lines)
-    kinds = {}
-    for l in lines:
-        kinds[l[:2]] = kinds.get(l[:2], 0) + 1
-    print(len(ws), 'words', sorted(kinds.items()))
+def write(path, content):
+    with open(path, 'wb') as f:
+        f.write(content)
 
 
-if __name__ == '__main__':
-    main()
+def main(arguments):
+    check = arguments[:1] == ['--check']
+    if len(arguments) != 1 + check:
+        case_files.usage(__doc__)
+    if not os.path.isdir(arguments[-1]):
+        case_files.usage(__doc__, '%s: not a folder' % arguments[-1])
+    tools = (case_files.AS, case_files.OBJDUMP)
+    if not check:
+        case_files.need_tools(*tools)
+    made = words(random.Random(20250321))
+    files = {'stdin': case_files.packed(made, '<')}
+    if all(map(shutil.which, tools)):
+        lines = expected(made)
+        files['stdout'] = ''.join(lines).encode()
+        print(len(made), 'words', sorted(collections.Counter(l[:2] for l in lines).items()))
+    for name, content in files.items():
+        (case_files.check_stored if check else write)(os.path.join(arguments[-1], name), content)
+    print(' and '.join(files), 'as made here' if check else 'written')
+
+
+main(sys.argv[1:])

@@ -3,9 +3,12 @@
 card.bin, kernel.bin, data.bin and expected.txt, and the stdout of crates/bench and crates/bench_cases.
 
 The kernels are written as text and encoded by tools/case_files.py. The expected printout is made by the plain
-Rust reference, never by the bench program: usage: tools/make_examples.py REFERENCE_PROGRAM
+Rust reference, never by the bench program.
+
+usage: make_examples.py REFERENCE_PROGRAM             writes the files; the program is the reference's `reference`
+       make_examples.py --check REFERENCE_PROGRAM     says whether the stored files are what is made here
 """
-import functools, os, shutil, subprocess, sys
+import functools, os, sys, tempfile
 
 import case_files
 from case_files import ROOT, packed, words_of
@@ -85,32 +88,54 @@ CASES = {
 NAMES = ('card.bin', 'kernel.bin', 'data.bin')
 
 
-def make(folder, files, reference):
-    """writes the files and expected.txt, and returns the expected printout"""
-    shutil.rmtree(folder, ignore_errors=True)
-    os.makedirs(folder)
-    for file, content in zip(NAMES, files):
-        if content is not None:
-            with open(os.path.join(folder, file), 'wb') as f:
+def printout(files, reference):
+    """what the reference prints in a folder with the files"""
+    with tempfile.TemporaryDirectory() as folder:
+        for file, content in zip(NAMES, files):
+            if content is not None:
+                with open(os.path.join(folder, file), 'wb') as f:
+                    f.write(content)
+        return case_files.output_of(reference, *NAMES, cwd=folder)
+
+
+def contents(reference):
+    """the path of every file, and its content"""
+    printed = {name: printout(files, reference) for name, files in CASES.items()}
+    # rt runs bench on the first example, and bench_cases on every case in the order above
+    made = {'crates/bench/stdout': printed['end'], 'crates/bench_cases/stdout': b''.join(printed.values())}
+    folders = {'crates/bench/data': EXAMPLES['end']}
+    for parent, cases in (('examples', EXAMPLES), ('crates/bench_cases/data', CASES)):
+        folders |= {'%s/%s' % (parent, name): files for name, files in cases.items()}
+        made |= {'%s/%s/expected.txt' % (parent, name): printed[name] for name in cases}
+    for folder, files in folders.items():
+        made |= {'%s/%s' % (folder, file): content for file, content in zip(NAMES, files) if content is not None}
+    return {os.path.join(ROOT, path): content for path, content in made.items()}
+
+
+def strangers(made):
+    """the files that are not made here, in the folders of those that are"""
+    folders = {os.path.dirname(path) for path in made if not path.endswith('stdout')}
+    stored = (os.path.join(folder, file) for folder in folders if os.path.isdir(folder) for file in os.listdir(folder))
+    return [path for path in stored if path not in made]
+
+
+def main(arguments):
+    check = arguments[:1] == ['--check']
+    if len(arguments) != 1 + check:
+        case_files.usage(__doc__)
+    made = contents(case_files.executable(arguments[-1], __doc__))
+    for path in strangers(made):
+        if check:
+            sys.exit('%s: not made here' % os.path.relpath(path, ROOT))
+        os.remove(path)
+    for path, content in made.items():
+        if check:
+            case_files.check_stored(path, content)
+        else:
+            os.makedirs(os.path.dirname(path), exist_ok=True)
+            with open(path, 'wb') as f:
                 f.write(content)
-    out = subprocess.run([reference, *NAMES], cwd=folder, capture_output=True, check=True).stdout
-    with open(os.path.join(folder, 'expected.txt'), 'wb') as f:
-        f.write(out)
-    return out
+    print('%d files, %s' % (len(made), 'as made here' if check else 'written'))
 
 
-def main():
-    reference = os.path.abspath(sys.argv[1])
-    bench, cases = (os.path.join(ROOT, 'crates', crate) for crate in ('bench', 'bench_cases'))
-    for name, files in EXAMPLES.items():
-        make(os.path.join(ROOT, 'examples', name), files, reference)
-    # what rt runs and compares: the first example, and every case in the order above
-    first = make(os.path.join(bench, 'data'), EXAMPLES['end'], reference)
-    os.remove(os.path.join(bench, 'data', 'expected.txt'))
-    lines = [make(os.path.join(cases, 'data', name), files, reference) for name, files in CASES.items()]
-    for crate, out in ((bench, first), (cases, b''.join(lines))):
-        with open(os.path.join(crate, 'stdout'), 'wb') as f:
-            f.write(out)
-
-
-main()
+main(sys.argv[1:])

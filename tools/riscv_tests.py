@@ -2,12 +2,13 @@
 """Makes crates/cases/data/riscv_tests.bin: a kernel for each program of tools/riscv_tests.txt, which checks itself.
 
 Register x3 has the number of the test that runs; a wrong result ends the kernel with it, and 1 says that all passed.
-With --qemu every kernel is also run by QEMU as a Linux program, at the same addresses and with the same words but
-for ENDPRG, in whose place it exits with x3: as it stands, and once more for each test with one bit of the expected
-result flipped. The file is written only if QEMU saw the pass, each failure's number, and the reference's steps.
+Before the file is written every kernel is run by QEMU as a Linux program, at the same addresses and with the same
+words but for ENDPRG, in whose place it exits with x3: as it stands, and once more for each test with one bit of the
+expected result flipped. It is written only if QEMU saw the pass, each failure's number, and the reference's steps.
 
-usage: riscv_tests.py                          says whether the stored file is what is made here
-       riscv_tests.py --qemu CASES_PROGRAM     writes it; the program is the reference's `cases`
+usage: riscv_tests.py CASES_PROGRAM     writes the file; the program is the reference's `cases`
+                                        needs qemu-user and binutils-riscv64-unknown-elf
+       riscv_tests.py --check           says whether the stored file is what is made here; needs neither
 """
 import os, random, re, sys
 
@@ -106,8 +107,8 @@ def gaps(variant, turn):
     return PAIRS[turn] if variant in ('ab', 'ba') else (turn, 0) if variant == 'before' else (0, 0)
 
 
-def used(k, variant, turn):
-    """the register that has the result when x7 was used after some nops"""
+def move_after_nops(k, variant, turn):
+    """the register that has x7's value: for variant `after` another one, to which it is moved after some nops"""
     if variant != 'after':
         return 'x7'
     k.add(*[NOP] * turn, 'addi x8,x7,0')
@@ -124,10 +125,10 @@ def arithmetic(k, name, variant, turn, figures):
     for operand, nops in zip(sorted(values.keys() - {'r'}, reverse=variant == 'ba'), gaps(variant, turn)):
         k.load({'a': first, 'b': second}[operand], values[operand], nops)
     k.add('%s %s,%s,%s' % (name, result, first, second))
-    return result if result != 'x7' else used(k, variant, turn), values.get('r', 0)
+    return result if result != 'x7' else move_after_nops(k, variant, turn), values.get('r', 0)
 
 
-def upper(k, name, variant, turn, figures):
+def load_upper(k, name, variant, turn, figures):
     if variant == 'zerod':
         k.add('lui x0,%d' % figures[0])
         return 'x0', 0
@@ -136,7 +137,7 @@ def upper(k, name, variant, turn, figures):
     return 'x7', result
 
 
-def relative(k, name, variant, turn, figures):
+def add_upper_to_pc(k, name, variant, turn, figures):
     """AUIPC and ADDI make an address at a distance from the word after JAL, which JAL's link gives too"""
     distance = figures[0] + 12
     low = (distance & 0xFFF ^ 0x800) - 0x800
@@ -144,7 +145,7 @@ def relative(k, name, variant, turn, figures):
     return 'x7', figures[0]
 
 
-def slot(k, figures, *jump):
+def jump_over_additions(k, figures, *jump):
     """x7 is 1 and what is left of six additions when the jump has passed over some"""
     k.load('x7', 1)
     k.add(*jump, *['addi x7,x7,1'] * 6)
@@ -155,7 +156,7 @@ def branch(k, name, variant, turn, figures):
     """once forward and once back: x7 is 3 if both are taken, 0 if neither is"""
     if variant == 'slot':
         first, second = ({'zero': 'x0', 'one': 'x7'}[f] for f in figures[1:])
-        return slot(k, figures, '%s %s,%s,20' % (name, first, second))
+        return jump_over_additions(k, figures, '%s %s,%s,20' % (name, first, second))
     k.load('x7', 0)
     for register, value, nops in zip(('x5', 'x6'), figures, gaps(variant, turn)):
         k.load(register, value, nops)
@@ -165,7 +166,7 @@ def branch(k, name, variant, turn, figures):
 
 def jump(k, name, variant, turn, figures):
     if variant == 'slot':
-        return slot(k, figures, 'jal x0,20')
+        return jump_over_additions(k, figures, 'jal x0,20')
     k.add('jal x6,16')
     link = k.here()
     k.add(NOP, NOP)
@@ -176,7 +177,7 @@ def jump(k, name, variant, turn, figures):
 def jump_register(k, name, variant, turn, figures):
     """the target's address by AUIPC and ADDI; a slot's jump goes to the word before it"""
     if variant == 'slot':
-        return slot(k, figures, 'auipc x5,0', 'addi x5,x5,28', 'jalr x0,-4(x5)')
+        return jump_over_additions(k, figures, 'auipc x5,0', 'addi x5,x5,28', 'jalr x0,-4(x5)')
     result = 'x5' if variant == 'same' else 'x6'
     nops = gaps(variant, turn)[0]
     k.add('auipc x5,0', 'addi x5,x5,%d' % (16 + 4 * nops), *[NOP] * nops, 'jalr %s,0(x5)' % result)
@@ -195,7 +196,7 @@ def loading(k, name, variant, turn, figures):
     result, *moved, offset, place = figures
     k.load('x5', k.place(place), gaps(variant, turn)[0])
     k.add(*('addi x5,x5,%d' % m for m in moved), '%s x7,%d(x5)' % (name, offset))
-    return used(k, variant, turn), result
+    return move_after_nops(k, variant, turn), result
 
 
 def storing(k, name, variant, turn, figures):
@@ -216,7 +217,7 @@ def storing(k, name, variant, turn, figures):
     return 'x7', result
 
 
-KINDS = {'lui': upper, 'auipc': relative, 'jal': jump, 'jalr': jump_register, **{'b' + c: branch for c in cf.BRANCHES},
+KINDS = {'lui': load_upper, 'auipc': add_upper_to_pc, 'jal': jump, 'jalr': jump_register, **{'b' + c: branch for c in cf.BRANCHES},
          **{'l' + s: loading for s in cf.LOADS}, **{'s' + s: storing for s in cf.STORES}}
 
 
@@ -263,16 +264,17 @@ def hold_against_qemu(programs, kernels):
     return lines
 
 
-def main():
+def main(arguments):
+    if len(arguments) != 1:
+        cf.usage(__doc__)
+    program = None if arguments[0] == '--check' else cf.executable(arguments[0], __doc__)
     programs = read_programs()
     kernels = {name: kernel(name, size, tests) for name, (size, _, tests) in programs.items()}
-    records = [cf.record(6, cf.words_of(kernels[name]), data) for name, (_, data, _) in programs.items()]
-    if len(sys.argv) == 3 and sys.argv[1] == '--qemu':
-        cf.write_case_file('riscv_tests.bin', records, hold_against_qemu(programs, kernels), sys.argv[2])
-    elif len(sys.argv) == 1:
-        cf.compare_case_file('riscv_tests.bin', records)
+    records = [cf.record(cf.CHECKS_ITSELF, cf.words_of(kernels[name]), data) for name, (_, data, _) in programs.items()]
+    if program:
+        cf.write_case_file('riscv_tests.bin', records, hold_against_qemu(programs, kernels), program)
     else:
-        sys.exit(__doc__)
+        cf.check_case_file('riscv_tests.bin', records)
 
 
-main()
+main(sys.argv[1:])

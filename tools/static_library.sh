@@ -5,10 +5,12 @@
 set -eu
 [ $# -eq 1 ] || { echo 'usage: tools/static_library.sh OUT.a' >&2; exit 2; }
 case $1 in /*) out=$1 ;; *) out=$PWD/$1 ;; esac
+[ -d "$(dirname "$out")" ] || { echo "static_library.sh: $(dirname "$out"), where $1 is to be written, is not a folder" >&2; exit 2; }
+[ ! -d "$out" ] || { echo "static_library.sh: $1 is a folder" >&2; exit 2; }
+rt=$(command -v rt) || { echo 'static_library.sh: rt, the Rattle kit, is not on the path' >&2; exit 1; }
 cd "$(dirname "$0")/.."
 
 if [ "$(uname -m)" = aarch64 ]; then
-    rt=$(command -v rt) || { echo 'static_library.sh: rt, the Rattle kit, is not on the path' >&2; exit 1; }
     kit=${RATTLE_HOME:-$(dirname "$(dirname "$(readlink -f "$rt")")")}
     work=$(mktemp -d)
     trap 'rm -rf "$work"' EXIT

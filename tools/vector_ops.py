@@ -8,7 +8,9 @@ standard instructions: a compare's mask bits into words 0 and 1, and vmv.s.x's e
 vmv.x.s, which is refused where lanes differ, the operand is the same in all lanes. The file is written only if the
 reference's answers are the lines made from QEMU's data.
 
-usage: vector_ops.py CASES_PROGRAM     the program is the reference's `cases`
+usage: vector_ops.py CASES_PROGRAM     writes the file; the program is the reference's `cases`
+                                       needs qemu-user and binutils-riscv64-unknown-elf
+       vector_ops.py --check           says whether the stored file is what is made here; needs neither
 """
 import random, sys
 
@@ -93,23 +95,35 @@ def qemu_program(name, rounds, size):
     return texts + ['ecall', 'addi x10,x0,0', 'addi x17,x0,93', 'ecall']
 
 
-def main():
-    if len(sys.argv) != 2:
-        sys.exit(__doc__)
+def hold_against_qemu(cases):
+    """the expected line of each case, from the data that QEMU leaves"""
     cf.print_versions()
-    rng = random.Random(32)
-    records, lines, texts = [], [], []
-    for number, name in enumerate(cf.VECTOR):
-        rounds = rounds_of(name, rng)
-        data = b''.join(cf.packed(first + rest, '<') + b'\xa5' * ROW for first, rest, _ in rounds)
-        ours, theirs = bench_kernel(name, rounds), qemu_program(name, rounds, len(data))
+    texts, lines = [], []
+    for number, (name, rounds, data, ours) in enumerate(cases):
+        theirs = qemu_program(name, rounds, len(data))
         texts += ours + theirs
         done = cf.run_qemu(cf.words_of(theirs), data, '-cpu', CPU)
         assert done.returncode == 0 and len(done.stdout) == len(data), (name, done.stderr)
-        records.append(cf.record(7, cf.words_of(ours), data))
         lines.append(cf.answer_line(number, len(ours), ours, cf.digest(done.stdout)))
     print('encoder: %d different instructions as binutils reads them' % cf.check_encoder(texts))
-    cf.write_case_file('vector_ops.bin', records, lines, sys.argv[1])
+    return lines
 
 
-main()
+def main(arguments):
+    if len(arguments) != 1:
+        cf.usage(__doc__)
+    program = None if arguments[0] == '--check' else cf.executable(arguments[0], __doc__)
+    rng = random.Random(32)
+    cases = []
+    for name in cf.VECTOR:
+        rounds = rounds_of(name, rng)
+        data = b''.join(cf.packed(first + rest, '<') + b'\xa5' * ROW for first, rest, _ in rounds)
+        cases.append((name, rounds, data, bench_kernel(name, rounds)))
+    records = [cf.record(cf.DATA_ONLY, cf.words_of(ours), data) for _, _, data, ours in cases]
+    if program:
+        cf.write_case_file('vector_ops.bin', records, hold_against_qemu(cases), program)
+    else:
+        cf.check_case_file('vector_ops.bin', records)
+
+
+main(sys.argv[1:])

@@ -42,8 +42,20 @@ pub enum Shown {
     Data,
 }
 
+/// The kinds of a record.
+mod kind {
+    pub const LAUNCH: u8 = 1;
+    pub const STATE: u8 = 2;
+    pub const CARD_READ: u8 = 3;
+    pub const RELEASE: u8 = 4;
+    pub const CARD_WRITE: u8 = 5;
+    pub const CHECKS_ITSELF: u8 = 6;
+    pub const DATA_ONLY: u8 = 7;
+}
+
 /// The kinds of a launch by what they show.
-const LAUNCH_KINDS: [(u8, Shown); 3] = [(1, Shown::All), (6, Shown::X3), (7, Shown::Data)];
+const LAUNCH_KINDS: [(u8, Shown); 3] =
+    [(kind::LAUNCH, Shown::All), (kind::CHECKS_ITSELF, Shown::X3), (kind::DATA_ONLY, Shown::Data)];
 
 #[derive(Clone, Debug, PartialEq, Eq)]
 pub enum Case {
@@ -186,42 +198,12 @@ pub fn launch_of(w: &[u32; 14]) -> Launch {
 pub fn evaluate(case: &Case) -> Answer {
     match case {
         Case::Launch { card, kernel, data, vector, budget, shown } => {
-            let kernel = kernel.build();
-            let (mut data, mut vector) = (data.build(), vector.build());
-            let mut state = [0; saved::WORDS];
-            let (code, steps) = match saved::launch(card, &kernel, &mut vector, &data, &mut state) {
-                0 => saved::run(&mut state, &kernel, &mut vector, &mut data, *budget),
-                refused => (refused, 0),
-            };
-            let last = match shown {
-                Shown::All => digest(&state, &vector, &data),
-                Shown::X3 => state[3],
-                Shown::Data => digest(&[], &[], &data),
-            };
-            answer(code, steps, &state, last)
+            launch_and_run(card, &kernel.build(), data.build(), vector.build(), *budget, *shown)
         }
         Case::State { state, kernel, data, vector, budget } => {
-            let kernel = kernel.build();
-            let (mut data, mut vector) = (data.build(), vector.build());
-            let mut state = state.clone();
-            let (code, steps) = saved::run(&mut state, &kernel, &mut vector, &mut data, *budget);
-            answer(code, steps, &state, digest(&state, &vector, &data))
+            run_state(state.clone(), &kernel.build(), data.build(), vector.build(), *budget)
         }
-        Case::CardRead { card } => {
-            let (code, launch) = match card::read(card) {
-                Ok(launch) => (0, launch),
-                Err(refusal) => (refusal.number(), Launch::default()),
-            };
-            let words = launch_words(&launch);
-            Answer {
-                code,
-                steps: 0,
-                pc: launch.entry,
-                mask: launch.fixed.mask,
-                splits: 0,
-                last: digest(&words, &[], &[]),
-            }
-        }
+        Case::CardRead { card } => read_card(card),
         Case::Release { state } => {
             let mut state = state.clone();
             let code = saved::release(&mut state);
@@ -233,6 +215,47 @@ pub fn evaluate(case: &Case) -> Answer {
             Answer { code, steps: 0, pc: 0, mask: 0, splits: 0, last: digest(&[], &[], &bytes) }
         }
     }
+}
+
+fn launch_and_run(
+    card: &[u8],
+    kernel: &[u32],
+    mut data: Vec<u8>,
+    mut vector: Vec<u32>,
+    budget: u32,
+    shown: Shown,
+) -> Answer {
+    let mut state = [0; saved::WORDS];
+    let (code, steps) = match saved::launch(card, kernel, &mut vector, &data, &mut state) {
+        0 => saved::run(&mut state, kernel, &mut vector, &mut data, budget),
+        refused => (refused, 0),
+    };
+    let last = match shown {
+        Shown::All => digest(&state, &vector, &data),
+        Shown::X3 => state[3],
+        Shown::Data => digest(&[], &[], &data),
+    };
+    answer(code, steps, &state, last)
+}
+
+fn run_state(
+    mut state: Vec<u32>,
+    kernel: &[u32],
+    mut data: Vec<u8>,
+    mut vector: Vec<u32>,
+    budget: u32,
+) -> Answer {
+    let (code, steps) = saved::run(&mut state, kernel, &mut vector, &mut data, budget);
+    answer(code, steps, &state, digest(&state, &vector, &data))
+}
+
+fn read_card(card: &[u8]) -> Answer {
+    let (code, launch) = match card::read(card) {
+        Ok(launch) => (0, launch),
+        Err(refusal) => (refusal.number(), Launch::default()),
+    };
+    let (pc, mask) = (launch.entry, launch.fixed.mask);
+    Answer { code, steps: 0, pc, mask, splits: 0, last: digest(&launch_words(&launch), &[], &[]) }
 }
 
 fn digest(state: &[u32], vector: &[u32], data: &[u8]) -> u32 {
@@ -304,20 +327,20 @@ pub fn write_file(cases: &[Case]) -> Vec<u8> {
             Case::State { state, kernel, data, vector, budget } => {
                 put_state(&mut body, state);
                 put_runs(&mut body, kernel, data, vector, *budget);
-                2
+                kind::STATE
             }
             Case::CardRead { card } => {
                 put_bytes(&mut body, card);
-                3
+                kind::CARD_READ
             }
             Case::Release { state } => {
                 put_state(&mut body, state);
-                4
+                kind::RELEASE
             }
             Case::CardWrite { launch, target } => {
                 launch.iter().for_each(|w| put(&mut body, *w));
                 put(&mut body, *target);
-                5
+                kind::CARD_WRITE
             }
         };
         out.push(kind);
@@ -380,16 +403,16 @@ impl<'a> Reader<'a> {
         let kind = self.byte()?;
         let mut r = Reader(self.run()?);
         let case = match kind {
-            2 => Case::State {
+            kind::STATE => Case::State {
                 state: r.state()?,
                 kernel: r.kernel()?,
                 data: r.data()?,
                 vector: r.vector()?,
                 budget: r.word()?,
             },
-            3 => Case::CardRead { card: r.run()?.to_vec() },
-            4 => Case::Release { state: r.state()? },
-            5 => {
+            kind::CARD_READ => Case::CardRead { card: r.run()?.to_vec() },
+            kind::RELEASE => Case::Release { state: r.state()? },
+            kind::CARD_WRITE => {
                 let mut launch = [0; 14];
                 for word in &mut launch {
                     *word = r.word()?;

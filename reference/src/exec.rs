@@ -39,20 +39,13 @@ fn execute(w: &mut Warp, insn: Insn, v: &mut VectorFile, data: &mut [u8]) -> Ste
         Insn::Auipc { rd, imm } => set(w, rd, w.pc.wrapping_add(imm)),
         Insn::Jal { rd, off } => return jump(w, rd, w.pc.wrapping_add(off)),
         Insn::Jalr { rd, rs1, imm } => return jump(w, rd, get(w, rs1).wrapping_add(imm) & !1),
-        Insn::Branch { cond, rs1, rs2, off } => {
-            if holds(cond, get(w, rs1), get(w, rs2)) {
-                w.pc = aligned(w.pc.wrapping_add(off))?;
-                return Ok(());
-            }
-        }
+        Insn::Branch { cond, rs1, rs2, off } => return branch(w, cond, rs1, rs2, off),
         Insn::Load { kind, rd, rs1, off } => {
-            let at =
-                place(data, w.fixed.data_base, get(w, rs1).wrapping_add(off), load_size(kind))?;
+            let at = scalar_place(w, data, rs1, off, load_size(kind))?;
             set(w, rd, load(data, kind, at));
         }
         Insn::Store { kind, rs1, rs2, off } => {
-            let at =
-                place(data, w.fixed.data_base, get(w, rs1).wrapping_add(off), store_size(kind))?;
+            let at = scalar_place(w, data, rs1, off, store_size(kind))?;
             store(data, kind, at, get(w, rs2));
         }
         Insn::AluImm { op, rd, rs1, imm } => set(w, rd, alu(op, get(w, rs1), imm)),
@@ -60,28 +53,12 @@ fn execute(w: &mut Warp, insn: Insn, v: &mut VectorFile, data: &mut [u8]) -> Ste
         Insn::Fence => {}
         Insn::Csr { op, rd, csr, src } => csr_step(w, op, rd, csr, src)?,
         Insn::Vbranch { cond, vs1, vs2, off } => return vbranch(w, v, cond, vs1, vs2, off),
-        Insn::Join => {
-            join(w);
-            return Ok(());
-        }
-        Insn::SetRpc { rd, rs1, imm } => {
-            w.rpc = get(w, rs1).wrapping_add(imm);
-            set(w, rd, w.rpc);
-        }
-        Insn::EndPrg => {
-            if w.depth != 0 {
-                return Err(Refusal::SplitOpen);
-            }
-            w.ended = true;
-            return Ok(());
-        }
-        Insn::Barrier => {
-            if w.depth != 0 {
-                return Err(Refusal::SplitOpen);
-            }
-            w.waiting = true;
-        }
+        Insn::Join => return join(w),
+        Insn::SetRpc { rd, rs1, imm } => set_rpc(w, rd, get(w, rs1).wrapping_add(imm)),
+        Insn::EndPrg => return end(w),
+        Insn::Barrier => wait(w)?,
         Insn::Vec { op, vd, vs2, src } => {
+            // In place: as a function of its own it makes such a step slower by a quarter.
             let src = match src {
                 VSrc::V(vs1) => *lanes_of(v, vs1),
                 VSrc::X(rs1) => [get(w, rs1); LANES],
@@ -89,27 +66,16 @@ fn execute(w: &mut Warp, insn: Insn, v: &mut VectorFile, data: &mut [u8]) -> Ste
             };
             vector(op, w.mask, v, vd, vs2, &src);
         }
-        Insn::VmvSX { vd, rs1 } => {
-            let value = get(w, rs1);
-            lanes(w.mask, lanes_mut(v, vd), |_| value);
-        }
-        Insn::VmvXS { rd, vs2 } => {
-            let value = uniform(w.mask, lanes_of(v, vs2)).ok_or(Refusal::Differ)?;
-            set(w, rd, value);
-        }
+        Insn::VmvSX { vd, rs1 } => fill(w.mask, lanes_mut(v, vd), get(w, rs1)),
+        Insn::VmvXS { rd, vs2 } => set(w, rd, uniform(w.mask, lanes_of(v, vs2))?),
         Insn::Vid { vd } => lanes(w.mask, lanes_mut(v, vd), |lane| lane as u32),
         Insn::Vload { space, kind, vd, vs1, off } => {
             let at = places(w, data, lanes_of(v, vs1), space, off, load_size(kind))?;
-            for lane in active(w.mask) {
-                lanes_mut(v, vd)[lane] = load(data, kind, at[lane]);
-            }
+            load_lanes(w.mask, lanes_mut(v, vd), data, kind, &at);
         }
         Insn::Vstore { space, kind, vs1, vs2, off } => {
             let at = places(w, data, lanes_of(v, vs1), space, off, store_size(kind))?;
-            // Ascending, so that the highest lane wins a shared byte.
-            for lane in active(w.mask) {
-                store(data, kind, at[lane], lanes_of(v, vs2)[lane]);
-            }
+            store_lanes(w.mask, lanes_of(v, vs2), data, kind, &at);
         }
     }
     w.pc = w.pc.wrapping_add(4);
@@ -144,6 +110,16 @@ fn jump(w: &mut Warp, rd: X, target: u32) -> Step {
     let target = aligned(target)?;
     set(w, rd, w.pc.wrapping_add(4));
     w.pc = target;
+    Ok(())
+}
+
+#[inline]
+fn branch(w: &mut Warp, cond: Cond, rs1: X, rs2: X, off: u32) -> Step {
+    w.pc = if holds(cond, get(w, rs1), get(w, rs2)) {
+        aligned(w.pc.wrapping_add(off))?
+    } else {
+        w.pc.wrapping_add(4)
+    };
     Ok(())
 }
 
@@ -265,6 +241,37 @@ fn csr_step(w: &mut Warp, op: CsrOp, rd: X, csr: u32, src: CsrSrc) -> Step {
     Ok(())
 }
 
+#[inline]
+fn set_rpc(w: &mut Warp, rd: X, value: u32) {
+    w.rpc = value;
+    set(w, rd, value);
+}
+
+#[inline]
+fn no_split_open(w: &Warp) -> Step {
+    if w.depth == 0 {
+        Ok(())
+    } else {
+        Err(Refusal::SplitOpen)
+    }
+}
+
+/// ENDPRG: the PC stays.
+#[inline]
+fn end(w: &mut Warp) -> Step {
+    no_split_open(w)?;
+    w.ended = true;
+    Ok(())
+}
+
+/// BARRIER.
+#[inline]
+fn wait(w: &mut Warp) -> Step {
+    no_split_open(w)?;
+    w.waiting = true;
+    Ok(())
+}
+
 // Splits and joins.
 
 fn vbranch(w: &mut Warp, v: &VectorFile, cond: Cond, vs1: V, vs2: V, off: u32) -> Step {
@@ -302,7 +309,7 @@ fn compare(a: &[u32; LANES], b: &[u32; LANES], f: impl Fn(u32, u32) -> bool) -> 
     (0..LANES).fold(0, |mask, lane| mask | if f(a[lane], b[lane]) { BIT[lane] } else { 0 })
 }
 
-fn join(w: &mut Warp) {
+fn join(w: &mut Warp) -> Step {
     let open = w.depth as usize;
     if let Some(last) = w.splits[..open].last_mut() {
         if last.rpc == w.pc {
@@ -315,10 +322,11 @@ fn join(w: &mut Warp) {
                 w.mask = last.else_mask;
                 w.pc = last.else_pc;
             }
-            return;
+            return Ok(());
         }
     }
     w.pc = w.pc.wrapping_add(4);
+    Ok(())
 }
 
 // Vector side.
@@ -366,6 +374,11 @@ fn lanes(mask: u32, d: &mut [u32; LANES], f: impl Fn(usize) -> u32) {
     }
 }
 
+#[inline]
+fn fill(mask: u32, d: &mut [u32; LANES], value: u32) {
+    lanes(mask, d, |_| value);
+}
+
 fn vector(op: VOp, mask: u32, v: &mut VectorFile, vd: V, vs2: V, b: &[u32; LANES]) {
     let a = *lanes_of(v, vs2);
     let d = lanes_mut(v, vd);
@@ -404,10 +417,14 @@ fn vector(op: VOp, mask: u32, v: &mut VectorFile, vd: V, vs2: V, b: &[u32; LANES
 }
 
 /// The value that all active lanes hold.
-fn uniform(mask: u32, a: &[u32; LANES]) -> Option<u32> {
+fn uniform(mask: u32, a: &[u32; LANES]) -> Result<u32, Refusal> {
     let mut values = active(mask).map(|lane| a[lane]);
-    let first = values.next()?;
-    values.all(|value| value == first).then_some(first)
+    let first = values.next().ok_or(Refusal::Differ)?;
+    if values.all(|value| value == first) {
+        Ok(first)
+    } else {
+        Err(Refusal::Differ)
+    }
 }
 
 // Data memory.
@@ -438,6 +455,12 @@ fn place(data: &[u8], base: u32, address: u32, size: usize) -> Result<usize, Ref
         Some(last) if at <= last => Ok(at),
         _ => Err(Refusal::Access),
     }
+}
+
+/// The place of a scalar access.
+#[inline]
+fn scalar_place(w: &Warp, data: &[u8], rs1: X, off: u32, size: usize) -> Result<usize, Refusal> {
+    place(data, w.fixed.data_base, get(w, rs1).wrapping_add(off), size)
 }
 
 #[inline]
@@ -492,4 +515,19 @@ fn places(
         at[lane] = place(data, w.fixed.data_base, address, size)?;
     }
     Ok(at)
+}
+
+#[inline]
+fn load_lanes(mask: u32, d: &mut [u32; LANES], data: &[u8], kind: LoadKind, at: &[usize; LANES]) {
+    for lane in active(mask) {
+        d[lane] = load(data, kind, at[lane]);
+    }
+}
+
+/// Ascending, so that the highest lane wins a shared byte.
+#[inline]
+fn store_lanes(mask: u32, a: &[u32; LANES], data: &mut [u8], kind: StoreKind, at: &[usize; LANES]) {
+    for lane in active(mask) {
+        store(data, kind, at[lane], a[lane]);
+    }
 }

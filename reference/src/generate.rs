@@ -5,11 +5,10 @@
 use crate::case::{evaluate, launch_words, Case, Data, Kernel, Shown, Vector};
 use crate::isa::{ENDPRG, JOIN};
 use crate::state::{Fixed, Launch, Split, Warp};
-use crate::table::{variants, Shape, Variant, RD, RS1, RS2};
+use crate::table::{
+    enc_b, enc_i, enc_j, enc_s, rd, rs1, rs2, Shape, Table, Variant, BARRIER, NOP, RD, RS1, RS2,
+};
 use crate::{card, saved};
-
-pub const NOP: u32 = 0x13;
-const BARRIER: u32 = 0x0400_400b;
 
 /// xorshift64*, from fixed seeds.
 pub struct Rng(u64);
@@ -52,51 +51,6 @@ const CORNERS: [u32; 10] =
     [0, 1, 2, 31, 32, 0x7fff_ffff, 0x8000_0000, 0x8000_0001, 0xffff_fffe, 0xffff_ffff];
 
 // Words.
-
-pub fn enc_i(imm: i32) -> u32 {
-    (imm as u32 & 0xfff) << 20
-}
-pub fn enc_s(imm: i32) -> u32 {
-    let imm = imm as u32;
-    (imm >> 5 & 0x7f) << 25 | (imm & 31) << 7
-}
-pub fn enc_b(off: i32) -> u32 {
-    let o = off as u32;
-    (o >> 12 & 1) << 31 | (o >> 5 & 63) << 25 | (o >> 1 & 15) << 8 | (o >> 11 & 1) << 7
-}
-pub fn enc_j(off: i32) -> u32 {
-    let o = off as u32;
-    (o >> 20 & 1) << 31 | (o >> 1 & 0x3ff) << 21 | (o >> 11 & 1) << 20 | (o >> 12 & 0xff) << 12
-}
-pub fn rd(n: u32) -> u32 {
-    n << 7
-}
-pub fn rs1(n: u32) -> u32 {
-    n << 15
-}
-pub fn rs2(n: u32) -> u32 {
-    n << 20
-}
-
-/// The variants by name.
-pub struct Table {
-    pub all: Vec<Variant>,
-}
-
-impl Table {
-    pub fn whole() -> Table {
-        Table { all: variants() }
-    }
-    pub fn get(&self, name: &str) -> &Variant {
-        self.all.iter().find(|v| v.name == name).unwrap_or_else(|| panic!("no variant {name}"))
-    }
-    pub fn fixed(&self, name: &str) -> u32 {
-        self.get(name).fixed
-    }
-    fn with(&self, keep: impl Fn(&Variant) -> bool) -> Vec<&Variant> {
-        self.all.iter().filter(|v| keep(v)).collect()
-    }
-}
 
 fn touches_memory(v: &Variant) -> bool {
     use Shape::{Load, PrivateLoad, PrivateStore, Store, Vload, Vstore};
@@ -269,36 +223,37 @@ fn random_state(rng: &mut Rng, g: &Ground, words: u32, depth: u32) -> Warp {
     warp.pc = f.code_base;
     warp.rpc = kernel_pc(rng, f, words);
     warp.print = rng.below(4);
+    open_splits(rng, &mut warp, words, depth);
+    assert!(warp.well_formed());
+    warp
+}
+
+/// Up to `depth` splits, while two lanes are left; deep chains mostly lose one
+/// lane a split.
+fn open_splits(rng: &mut Rng, warp: &mut Warp, words: u32, depth: u32) {
+    let f = warp.fixed;
     for _ in 0..depth {
         if warp.mask.count_ones() < 2 {
             break;
         }
         let else_mask = loop {
-            // Mostly one lane off, so that the chain grows deep.
-            let part = if depth > 4 {
-                let lane = rng.below(32);
-                warp.mask & (1 << lane)
-            } else {
-                warp.mask & rng.word()
-            };
+            let part = warp.mask & if depth > 4 { 1 << rng.below(32) } else { rng.word() };
             if part != 0 && part != warp.mask {
                 break part;
             }
         };
         let phase_two = rng.chance(if depth > 4 { 40 } else { 3 });
         let split = Split {
-            rpc: if rng.chance(20) { rng.word() } else { kernel_pc(rng, f, words) },
+            rpc: if rng.chance(20) { rng.word() } else { kernel_pc(rng, &f, words) },
             full: warp.mask,
             else_mask,
-            else_pc: kernel_pc(rng, f, words),
+            else_pc: kernel_pc(rng, &f, words),
             phase_two,
         };
         warp.splits[warp.depth as usize] = split;
         warp.depth += 1;
         warp.mask = split.running();
     }
-    assert!(warp.well_formed());
-    warp
 }
 
 fn kernel_pc(rng: &mut Rng, f: &Fixed, words: u32) -> u32 {
@@ -434,15 +389,32 @@ fn directed(round: u32, t: &Table, out: &mut Vec<Case>) {
 /// operations and VBRANCH over registers of corner values.
 fn corners(round: u32, t: &Table, out: &mut Vec<Case>) {
     let mut rng = Rng::of_family(round, 16);
-    let rng = &mut rng;
-    // x1 to x10 hold the corners.
+    corner_pairs(t, out);
+    corner_immediates(&mut rng, t, out);
+    corner_lanes(&mut rng, t, out);
+    corner_vbranches(&mut rng, t, out);
+}
+
+/// x1 to x10 hold the corners.
+fn corner_state(g: &Ground) -> Warp {
+    let mut warp = Warp { fixed: g.fixed, mask: g.fixed.mask, ..Warp::default() };
+    warp.pc = g.fixed.code_base;
+    warp.x[1..11].copy_from_slice(&CORNERS);
+    warp
+}
+
+/// All 32 lanes over a register whose lanes hold corners (number 3 modulo 4).
+fn corner_ground(rng: &mut Rng, words: u32) -> Ground {
+    let mut g = ground(rng, words);
+    (g.fixed.numt, g.fixed.mask) = (32, u32::MAX);
+    g
+}
+fn corner_register(rng: &mut Rng) -> u32 {
+    3 + 4 * rng.below(8)
+}
+
+fn corner_pairs(t: &Table, out: &mut Vec<Case>) {
     let pairs: Vec<(u32, u32)> = (1..=10).flat_map(|a| (1..=10).map(move |b| (a, b))).collect();
-    let state = |g: &Ground| {
-        let mut warp = Warp { fixed: g.fixed, mask: g.fixed.mask, ..Warp::default() };
-        warp.pc = g.fixed.code_base;
-        warp.x[1..11].copy_from_slice(&CORNERS);
-        warp
-    };
     for v in t.with(|v| v.fixed & 0x7f == 0x33 || v.fixed & 0x7f == 0x63) {
         for some in pairs.chunks(20) {
             let kernel: Vec<u32> = (11..)
@@ -457,9 +429,12 @@ fn corners(round: u32, t: &Table, out: &mut Vec<Case>) {
                 .collect();
             let g = plain_ground();
             let budget = kernel.len() as u32;
-            out.push(state_case(&state(&g), kernel, g, budget));
+            out.push(state_case(&corner_state(&g), kernel, g, budget));
         }
     }
+}
+
+fn corner_immediates(rng: &mut Rng, t: &Table, out: &mut Vec<Case>) {
     for v in t.with(|v| v.fixed & 0x7f == 0x13) {
         let free = v.free & !(RD | RS1);
         let kernel: Vec<u32> = (11..31)
@@ -469,32 +444,35 @@ fn corners(round: u32, t: &Table, out: &mut Vec<Case>) {
             })
             .collect();
         let g = plain_ground();
-        out.push(state_case(&state(&g), kernel, g, 20));
+        out.push(state_case(&corner_state(&g), kernel, g, 20));
     }
-    let lanes = t.with(|v| v.fixed & 0x7f == 0x57 && v.shape == Shape::Plain);
-    for v in lanes {
+}
+
+fn corner_lanes(rng: &mut Rng, t: &Table, out: &mut Vec<Case>) {
+    for v in t.with(|v| v.fixed & 0x7f == 0x57 && v.shape == Shape::Plain) {
         for _ in 0..2 {
-            let mut g = ground(rng, 6);
-            (g.fixed.numt, g.fixed.mask) = (32, u32::MAX);
+            let g = corner_ground(rng, 6);
             let kernel = (0..6)
                 .map(|n| {
                     let source = match v.name.rsplit('.').next() {
-                        Some("vv") => rs1(3 + 4 * rng.below(8)),
+                        Some("vv") => rs1(corner_register(rng)),
                         Some("vx") | Some("x") => rs1(1 + rng.below(10)),
                         _ => rs1(rng.pick(&[0, 1, 15, 16, 30, 31])),
                     };
-                    v.fixed | rd(4 * n) | (rs2(3 + 4 * rng.below(8)) | source) & v.free
+                    v.fixed | rd(4 * n) | (rs2(corner_register(rng)) | source) & v.free
                 })
                 .collect();
-            out.push(state_case(&state(&g), kernel, g, 6));
+            out.push(state_case(&corner_state(&g), kernel, g, 6));
         }
     }
+}
+
+fn corner_vbranches(rng: &mut Rng, t: &Table, out: &mut Vec<Case>) {
     for v in t.with(|v| v.shape == Shape::Branch && v.fixed & 0x7f == 0x5b) {
         for _ in 0..12 {
-            let mut g = ground(rng, 2);
-            (g.fixed.numt, g.fixed.mask) = (32, u32::MAX);
-            let word = v.fixed | rs1(3 + 4 * rng.below(8)) | rs2(3 + 4 * rng.below(8)) | enc_b(8);
-            out.push(state_case(&state(&g), vec![word, NOP], g, 1));
+            let g = corner_ground(rng, 2);
+            let word = v.fixed | rs1(corner_register(rng)) | rs2(corner_register(rng)) | enc_b(8);
+            out.push(state_case(&corner_state(&g), vec![word, NOP], g, 1));
         }
     }
 }
@@ -638,45 +616,13 @@ impl<'a> Builder<'a> {
                 return;
             }
             match rng.below(16) {
-                0..=3 => {
-                    let v = rng.pick(&self.vector);
-                    let any = v.fixed | rng.word() & v.free;
-                    let vd = 4 + rng.below(12);
-                    let mut word = any & !RD | rd(vd);
-                    if v.free & RS2 != 0 {
-                        word = word & !RS2 | rs2(1 + rng.below(15));
-                    }
-                    if v.free & RS1 != 0 && v.name.ends_with("vv") {
-                        word = word & !RS1 | rs1(1 + rng.below(15));
-                    }
-                    self.words.push(word);
-                }
+                0..=3 => self.lane_operation(rng),
                 4 => {
                     let v = rng.pick(&self.scalar);
                     let word = v.fixed | rng.word() & v.free;
                     self.words.push(word & !RD | rd(10 + rng.below(12)));
                 }
-                5..=6 => {
-                    let off = rng.range(0, 16);
-                    match rng.below(4) {
-                        0 => {
-                            let name = rng.pick(&["vlb12", "vlh12", "vlw12", "vlbu12", "vlhu12"]);
-                            self.op(name, rd(4 + rng.below(12)) | rs1(2) | enc_i(off));
-                        }
-                        1 => {
-                            let name = rng.pick(&["vsb12", "vsh12", "vsw12"]);
-                            self.op(name, rs2(1 + rng.below(15)) | rs1(2) | enc_s(off));
-                        }
-                        2 => {
-                            let name = rng.pick(&["vlb.p", "vlh.p", "vlw.p", "vlbu.p", "vlhu.p"]);
-                            self.op(name, rd(4 + rng.below(12)) | rs1(3) | enc_i(off & 3));
-                        }
-                        _ => {
-                            let name = rng.pick(&["vsb.p", "vsh.p", "vsw.p"]);
-                            self.op(name, rs2(1 + rng.below(15)) | rs1(3) | enc_s(off & 3));
-                        }
-                    }
-                }
+                5..=6 => self.lane_access(rng),
                 7..=10 if depth < 4 => self.branch(rng, depth),
                 11..=12 if depth < 3 => self.turns(rng, depth),
                 13 if self.goes_wrong(rng) => self.words.push(JOIN),
@@ -686,6 +632,43 @@ impl<'a> Builder<'a> {
                     "vadd.vi",
                     rd(4 + rng.below(4)) | rs2(1 + rng.below(7)) | rs1(rng.below(32)),
                 ),
+            }
+        }
+    }
+
+    /// Over v1 to v15, into v4 to v15.
+    fn lane_operation(&mut self, rng: &mut Rng) {
+        let v = rng.pick(&self.vector);
+        let any = v.fixed | rng.word() & v.free;
+        let mut word = any & !RD | rd(4 + rng.below(12));
+        if v.free & RS2 != 0 {
+            word = word & !RS2 | rs2(1 + rng.below(15));
+        }
+        if v.free & RS1 != 0 && v.name.ends_with("vv") {
+            word = word & !RS1 | rs1(1 + rng.below(15));
+        }
+        self.words.push(word);
+    }
+
+    /// A load or store, flat at v2 or private at v3.
+    fn lane_access(&mut self, rng: &mut Rng) {
+        let off = rng.range(0, 16);
+        match rng.below(4) {
+            0 => {
+                let name = rng.pick(&["vlb12", "vlh12", "vlw12", "vlbu12", "vlhu12"]);
+                self.op(name, rd(4 + rng.below(12)) | rs1(2) | enc_i(off));
+            }
+            1 => {
+                let name = rng.pick(&["vsb12", "vsh12", "vsw12"]);
+                self.op(name, rs2(1 + rng.below(15)) | rs1(2) | enc_s(off));
+            }
+            2 => {
+                let name = rng.pick(&["vlb.p", "vlh.p", "vlw.p", "vlbu.p", "vlhu.p"]);
+                self.op(name, rd(4 + rng.below(12)) | rs1(3) | enc_i(off & 3));
+            }
+            _ => {
+                let name = rng.pick(&["vsb.p", "vsh.p", "vsw.p"]);
+                self.op(name, rs2(1 + rng.below(15)) | rs1(3) | enc_s(off & 3));
             }
         }
     }
@@ -912,13 +895,46 @@ fn csrs(t: &Table, out: &mut Vec<Case>) {
     }
 }
 
-/// Words next to legal ones, and words of what is not here.
-fn near_words(round: u32, t: &Table, out: &mut Vec<Case>) {
-    let mut rng = Rng::of_family(round, 7);
-    let rng = &mut rng;
+/// Words of what is not here; the last two are, though they look like another.
+const FOREIGN_WORDS: [u32; 31] = [
+    0,
+    u32::MAX,
+    0x73,
+    0x0010_0073,
+    0x100f,
+    0x1020_0073, // ecall, ebreak, fence.i, sret
+    0x0600_400b,
+    0x0600_c00b, // BARRIERSUB
+    0x0001_7057,
+    0x8000_7057,
+    0xc000_7057, // vsetvli, vsetvl, vsetivli
+    0x1000_202f,
+    0x0000_202f, // lr.w, amoadd.w
+    0x0000_0053,
+    0x0000_2007,
+    0x0000_2027, // fadd.s, flw, fsw
+    0x0200_1057,
+    0x0200_5057, // vfadd
+    0x8000_002b,
+    0x8000_602b, // private forms with bit 31
+    0x0000_3003,
+    0x0000_6003,
+    0x0000_7003,
+    0x0000_3023,
+    0x0000_4023, // wrong widths
+    0x0000_2063,
+    0x0000_3063,
+    0x0000_1067,
+    0x0000_4073,
+    0x0000_005b,
+    0x0000_105b, // VBEQ (not VADD12) and VBNE
+];
+
+/// Words next to legal ones: each fixed bit above the opcode turned over, and
+/// one of the opcode's; vector words that are masked or of another funct3.
+fn beside_legal(rng: &mut Rng, t: &Table) -> Vec<u32> {
     let mut words = Vec::new();
     for v in &t.all {
-        // Each fixed bit above the opcode turned over, and one of the opcode's.
         let opcode_bit = rng.below(7);
         for bit in (7..32).chain([opcode_bit]).filter(|bit| v.free >> bit & 1 == 0) {
             words.push((v.fixed | rng.word() & v.free) ^ 1 << bit);
@@ -929,39 +945,14 @@ fn near_words(round: u32, t: &Table, out: &mut Vec<Case>) {
             words.push((v.fixed | rng.word() & v.free) & !0x7000 | funct3);
         }
     }
-    words.extend([
-        0,
-        u32::MAX,
-        0x73,
-        0x0010_0073,
-        0x100f,
-        0x1020_0073, // ecall, ebreak, fence.i, sret
-        0x0600_400b,
-        0x0600_c00b, // BARRIERSUB
-        0x0001_7057,
-        0x8000_7057,
-        0xc000_7057, // vsetvli, vsetvl, vsetivli
-        0x1000_202f,
-        0x0000_202f, // lr.w, amoadd.w
-        0x0000_0053,
-        0x0000_2007,
-        0x0000_2027, // fadd.s, flw, fsw
-        0x0200_1057,
-        0x0200_5057, // vfadd
-        0x8000_002b,
-        0x8000_602b, // private forms with bit 31
-        0x0000_3003,
-        0x0000_6003,
-        0x0000_7003,
-        0x0000_3023,
-        0x0000_4023, // wrong widths
-        0x0000_2063,
-        0x0000_3063,
-        0x0000_1067,
-        0x0000_4073,
-        0x0000_005b,
-        0x0000_105b, // VBEQ (not VADD12) and VBNE
-    ]);
+    words
+}
+
+/// Words next to legal ones, words of what is not here, and any words.
+fn near_words(round: u32, t: &Table, out: &mut Vec<Case>) {
+    let mut rng = Rng::of_family(round, 7);
+    let mut words = beside_legal(&mut rng, t);
+    words.extend(FOREIGN_WORDS);
     words.extend((0..200).map(|_| rng.word()));
     for (n, word) in words.into_iter().enumerate() {
         let mut g = plain_ground();
@@ -1078,37 +1069,41 @@ fn overlaps(round: u32, t: &Table, out: &mut Vec<Case>) {
 /// PCs at both ends of the space and of the kernel.
 fn pc_edges(round: u32, t: &Table, out: &mut Vec<Case>) {
     let mut rng = Rng::of_family(round, 10);
-    let rng = &mut rng;
-    let jal = t.fixed("jal");
-    let beq = t.fixed("beq");
-    let vbeq = t.fixed("vbeq");
-    let vbne = t.fixed("vbne");
+    edge_jumps(t, out);
+    entries_off_the_kernel(&mut rng, out);
+    half_word_targets(&mut rng, t, out);
+}
+
+fn edge_jumps(t: &Table, out: &mut Vec<Case>) {
+    let (jal, jalr, auipc) = (t.fixed("jal"), t.fixed("jalr"), t.fixed("auipc"));
+    let (beq, vbeq, vbne) = (t.fixed("beq"), t.fixed("vbeq"), t.fixed("vbne"));
     let vid = t.fixed("vid.v") | rd(1);
-    let kernels: [Vec<u32>; 12] = [
-        vec![NOP, NOP],
-        vec![NOP, jal | rd(1) | enc_j(4)],
-        vec![NOP, jal | rd(1) | enc_j(-8)],
-        vec![jal | rd(1) | enc_j(-0x10_0000), NOP],
-        vec![jal | rd(1) | enc_j(0xf_fffc), NOP],
-        vec![t.fixed("auipc") | rd(3) | 0xffff_f000, t.fixed("auipc") | rd(4) | 0x7fff_f000],
-        vec![beq | enc_b(-4096), NOP],
-        vec![beq | enc_b(4092), NOP],
-        vec![vbeq | enc_b(-4), NOP],
-        vec![vid, vbne | rs1(1) | enc_b(4)],
-        vec![vid, vbne | rs1(1) | enc_b(-64)],
-        vec![t.fixed("jalr") | rd(1) | enc_i(-4), t.fixed("jalr") | rd(1) | rs1(1) | enc_i(1)],
+    let kernels = [
+        [NOP, NOP],
+        [NOP, jal | rd(1) | enc_j(4)],
+        [NOP, jal | rd(1) | enc_j(-8)],
+        [jal | rd(1) | enc_j(-0x10_0000), NOP],
+        [jal | rd(1) | enc_j(0xf_fffc), NOP],
+        [auipc | rd(3) | 0xffff_f000, auipc | rd(4) | 0x7fff_f000],
+        [beq | enc_b(-4096), NOP],
+        [beq | enc_b(4092), NOP],
+        [vbeq | enc_b(-4), NOP],
+        [vid, vbne | rs1(1) | enc_b(4)],
+        [vid, vbne | rs1(1) | enc_b(-64)],
+        [jalr | rd(1) | enc_i(-4), jalr | rd(1) | rs1(1) | enc_i(1)],
     ];
     for kernel in kernels {
-        let top = (1u64 << 32) - 4 * kernel.len() as u64;
-        for base in [0, top as u32, 0x8000_0000] {
-            for entry in [base, base.wrapping_add(4)] {
+        for base in [0, 0xffff_fff8, 0x8000_0000] {
+            for entry in [base, base + 4] {
                 let mut g = plain_ground();
                 g.fixed.code_base = base;
-                out.push(launch_case(g, entry, kernel.clone(), 4));
+                out.push(launch_case(g, entry, kernel.to_vec(), 4));
             }
         }
     }
-    // Entries off the kernel.
+}
+
+fn entries_off_the_kernel(rng: &mut Rng, out: &mut Vec<Case>) {
     for n in 0..60 {
         let words = 1 + rng.below(5);
         let g = ground(rng, words);
@@ -1120,75 +1115,91 @@ fn pc_edges(round: u32, t: &Table, out: &mut Vec<Case>) {
         };
         out.push(launch_case(g, entry, vec![NOP; words as usize], rng.below(8)));
     }
-    // Jumps and branches, taken or not, to halves of words.
+}
+
+/// Jumps and branches, taken or not, to halves of words.
+fn half_word_targets(rng: &mut Rng, t: &Table, out: &mut Vec<Case>) {
     for n in 0..90 {
         let mut g = plain_ground();
         let off = 4 * rng.range(-3, 3) + 2;
         let word = match n % 9 {
-            0 => jal | rd(2) | enc_j(off),
+            0 => t.fixed("jal") | rd(2) | enc_j(off),
             1 => t.fixed("jalr") | rd(2) | enc_i(off),
             2 => t.fixed("jalr") | rd(2) | enc_i(off | 1),
-            3 => beq | enc_b(off),
+            3 => t.fixed("beq") | enc_b(off),
             4 => t.fixed("bne") | enc_b(off),
-            5 => vbeq | enc_b(off),
-            6 => vbne | enc_b(off),
-            7 => vbeq | rs1(1) | enc_b(off),
+            5 => t.fixed("vbeq") | enc_b(off),
+            6 => t.fixed("vbne") | enc_b(off),
+            7 => t.fixed("vbeq") | rs1(1) | enc_b(off),
             _ => t.fixed("vbltu") | rs1(1) | rs2(2) | enc_b(off),
         };
         g.fixed.numt = 1 + rng.below(32);
         g.fixed.mask = low_mask(g.fixed.numt);
         let entry = g.fixed.code_base;
-        out.push(launch_case(g, entry, vec![vid, word, NOP], 3));
+        out.push(launch_case(g, entry, vec![t.fixed("vid.v") | rd(1), word, NOP], 3));
     }
 }
 
-/// The sizes of the lent runs, alone and together with other faults.
+/// The sizes of the lent runs, each from a launch and from a saved state.
 fn sizes(round: u32, out: &mut Vec<Case>) {
     let mut rng = Rng::of_family(round, 11);
-    let kernels = [0, 1, 2, 16_383, 16_384, 16_385];
-    let vectors = [1024, 0, 1, 32, 992, 1023, 1025, 1056];
-    let datas = [0, 1, 65_535, 65_536, 65_537];
-    let mut add =
-        |kernel: u32, vector: u32, data: u32, code_base: u32, data_base: u32, state: bool| {
-            let mut g = plain_ground();
-            (g.fixed.code_base, g.fixed.data_base) = (code_base, data_base);
-            let kernel = Kernel { words: Vec::new(), total: kernel, fill: NOP };
-            let data = Data { bytes: Vec::new(), total: data, seed: 7 };
-            let vector = Vector { total: vector, seed: 9, base: 0, mask: 0xff };
-            let launch = Launch { fixed: g.fixed, entry: code_base };
-            let budget = rng.pick(&[0, 1, 3]);
-            out.push(if state {
-                let state = saved::to_words(&Warp::launched(&launch)).to_vec();
-                Case::State { state, kernel, data, vector, budget }
-            } else {
-                let (card, shown) = (card_of(&launch), Shown::All);
-                Case::Launch { card, kernel, data, vector, budget, shown }
-            });
-        };
     for state in [false, true] {
-        let (code, data) = (0x8000_0000, 0x9000_0000);
-        kernels.into_iter().for_each(|n| add(n, 1024, 8, code, data, state));
-        vectors.into_iter().for_each(|n| add(2, n, 8, code, data, state));
-        datas.into_iter().for_each(|n| add(2, 1024, n, code, data, state));
-        for (words, base) in [
-            (1, 0xffff_fffc),
-            (2, 0xffff_fffc),
-            (2, 0xffff_fff8),
-            (3, 0xffff_fff8),
-            (16_384, 0xffff_0000),
-            (16_384, 0xffff_0004),
-        ] {
-            add(words, 1024, 8, base, data, state);
+        for lent in lent_sizes() {
+            out.push(size_case(&mut rng, lent, state));
         }
-        for (bytes, base) in [
-            (0, 0xffff_ffff),
-            (1, 0xffff_ffff),
-            (2, 0xffff_ffff),
-            (65_536, 0xffff_0000),
-            (65_536, 0xffff_0001),
-        ] {
-            add(2, 1024, bytes, code, base, state);
-        }
+    }
+}
+
+/// How long the lent runs are, and where kernel and data lie.
+#[derive(Clone, Copy)]
+struct Sizes {
+    kernel: u32,
+    vector: u32,
+    data: u32,
+    code_base: u32,
+    data_base: u32,
+}
+
+fn lent_sizes() -> Vec<Sizes> {
+    let plain =
+        Sizes { kernel: 2, vector: 1024, data: 8, code_base: 0x8000_0000, data_base: 0x9000_0000 };
+    let kernels = [0, 1, 2, 16_383, 16_384, 16_385].map(|kernel| Sizes { kernel, ..plain });
+    let vectors = [1024, 0, 1, 32, 992, 1023, 1025, 1056].map(|vector| Sizes { vector, ..plain });
+    let datas = [0, 1, 65_535, 65_536, 65_537].map(|data| Sizes { data, ..plain });
+    let code_ends = [
+        (1, 0xffff_fffc),
+        (2, 0xffff_fffc),
+        (2, 0xffff_fff8),
+        (3, 0xffff_fff8),
+        (16_384, 0xffff_0000),
+        (16_384, 0xffff_0004),
+    ]
+    .map(|(kernel, code_base)| Sizes { kernel, code_base, ..plain });
+    let data_ends = [
+        (0, 0xffff_ffff),
+        (1, 0xffff_ffff),
+        (2, 0xffff_ffff),
+        (65_536, 0xffff_0000),
+        (65_536, 0xffff_0001),
+    ]
+    .map(|(data, data_base)| Sizes { data, data_base, ..plain });
+    [&kernels[..], &vectors, &datas, &code_ends, &data_ends].concat()
+}
+
+fn size_case(rng: &mut Rng, lent: Sizes, state: bool) -> Case {
+    let mut g = plain_ground();
+    (g.fixed.code_base, g.fixed.data_base) = (lent.code_base, lent.data_base);
+    let kernel = Kernel { words: Vec::new(), total: lent.kernel, fill: NOP };
+    let data = Data { bytes: Vec::new(), total: lent.data, seed: 7 };
+    let vector = Vector { total: lent.vector, seed: 9, base: 0, mask: 0xff };
+    let launch = Launch { fixed: g.fixed, entry: lent.code_base };
+    let budget = rng.pick(&[0, 1, 3]);
+    if state {
+        let state = saved::to_words(&Warp::launched(&launch)).to_vec();
+        Case::State { state, kernel, data, vector, budget }
+    } else {
+        let (card, shown) = (card_of(&launch), Shown::All);
+        Case::Launch { card, kernel, data, vector, budget, shown }
     }
 }
 
@@ -1220,20 +1231,38 @@ fn spoil(rng: &mut Rng, w: &mut [u32; 14]) {
 /// Cards read and written, sound and damaged.
 fn cards(round: u32, out: &mut Vec<Case>) {
     let mut rng = Rng::of_family(round, 12);
-    let rng = &mut rng;
-    let raw = |w: &[u32; 14]| {
-        // The bytes of a card whatever its values.
-        let mut card = vec![0, 48, 1, w[0] as u8, w[1] as u8, w[2] as u8];
-        w[3..].iter().for_each(|word| card.extend(word.to_be_bytes()));
-        card
-    };
+    let damaged = cards_read(&mut rng, out);
+    // A launch from such cards: every other one.
+    for card in damaged.into_iter().step_by(2) {
+        let g = plain_ground();
+        out.push(Case::Launch {
+            card,
+            kernel: Kernel::plain(if rng.chance(8) { vec![] } else { vec![NOP, ENDPRG] }),
+            data: g.data,
+            vector: Vector { seed: rng.word(), ..g.vector },
+            budget: rng.below(4),
+            shown: Shown::All,
+        });
+    }
+    cards_written(&mut rng, out);
+}
+
+/// The bytes of a card whatever its values.
+fn raw_card(w: &[u32; 14]) -> Vec<u8> {
+    let mut card = vec![0, 48, 1, w[0] as u8, w[1] as u8, w[2] as u8];
+    w[3..].iter().for_each(|word| card.extend(word.to_be_bytes()));
+    card
+}
+
+/// Adds the reads and returns the cards that are not sound.
+fn cards_read(rng: &mut Rng, out: &mut Vec<Case>) -> Vec<Vec<u8>> {
     let mut damaged = Vec::new();
     for n in 0..360 {
         let mut words = launch_words(&random_launch(rng));
         if n % 6 == 1 || n % 6 == 2 {
             spoil(rng, &mut words);
         }
-        let mut card = raw(&words);
+        let mut card = raw_card(&words);
         match n % 6 {
             3 => {
                 let at = rng.below(3) as usize;
@@ -1257,18 +1286,10 @@ fn cards(round: u32, out: &mut Vec<Case>) {
         }
         out.push(Case::CardRead { card });
     }
-    // A launch from such cards: every other one.
-    for card in damaged.into_iter().step_by(2) {
-        let g = plain_ground();
-        out.push(Case::Launch {
-            card,
-            kernel: Kernel::plain(if rng.chance(8) { vec![] } else { vec![NOP, ENDPRG] }),
-            data: g.data,
-            vector: Vector { seed: rng.word(), ..g.vector },
-            budget: rng.below(4),
-            shown: Shown::All,
-        });
-    }
+    damaged
+}
+
+fn cards_written(rng: &mut Rng, out: &mut Vec<Case>) {
     for n in 0..120 {
         let mut launch = launch_words(&random_launch(rng));
         if n % 3 == 1 {
@@ -1419,8 +1440,12 @@ fn releases(round: u32, out: &mut Vec<Case>) {
 /// Two or more faults at once: the first in the rules' order counts.
 fn precedence(round: u32, out: &mut Vec<Case>) {
     let mut rng = Rng::of_family(round, 15);
-    let rng = &mut rng;
-    // Sizes (1) before each clause of well-formedness (2).
+    sizes_before_form(&mut rng, out);
+    any_faults(&mut rng, out);
+}
+
+/// Sizes (1) before each clause of well-formedness (2).
+fn sizes_before_form(rng: &mut Rng, out: &mut Vec<Case>) {
     for clause in 0..28 {
         let g = ground(rng, 3);
         let warp = random_state(rng, &g, 3, 2);
@@ -1434,6 +1459,9 @@ fn precedence(round: u32, out: &mut Vec<Case>) {
         }
         out.push(Case::State { state, kernel, data, vector, budget: clause % 2 });
     }
+}
+
+fn any_faults(rng: &mut Rng, out: &mut Vec<Case>) {
     for n in 0..200 {
         let g = ground(rng, 3);
         let mut warp = random_state(rng, &g, 3, 0);

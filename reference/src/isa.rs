@@ -301,46 +301,48 @@ const fn funct7(w: u32) -> u32 {
     field(w, 31, 25)
 }
 
+// The fields as registers: result, first and second operand.
+
+const fn xd(w: u32) -> X {
+    X::new(rd(w))
+}
+const fn x1(w: u32) -> X {
+    X::new(rs1(w))
+}
+const fn x2(w: u32) -> X {
+    X::new(rs2(w))
+}
+const fn vd(w: u32) -> V {
+    V::new(rd(w))
+}
+const fn v1(w: u32) -> V {
+    V::new(rs1(w))
+}
+const fn v2(w: u32) -> V {
+    V::new(rs2(w))
+}
+
 /// The instruction that a word stands for; `None` is refusal 6.
 #[inline(always)]
 pub fn decode(w: u32) -> Option<Insn> {
     let insn = match field(w, 6, 0) {
-        0b011_0111 => Insn::Lui { rd: X::new(rd(w)), imm: w & 0xffff_f000 },
-        0b001_0111 => Insn::Auipc { rd: X::new(rd(w)), imm: w & 0xffff_f000 },
-        0b110_1111 => Insn::Jal { rd: X::new(rd(w)), off: imm_j(w) },
-        0b110_0111 if funct3(w) == 0 => {
-            Insn::Jalr { rd: X::new(rd(w)), rs1: X::new(rs1(w)), imm: imm_i(w) }
+        0b011_0111 => Insn::Lui { rd: xd(w), imm: w & 0xffff_f000 },
+        0b001_0111 => Insn::Auipc { rd: xd(w), imm: w & 0xffff_f000 },
+        0b110_1111 => Insn::Jal { rd: xd(w), off: imm_j(w) },
+        0b110_0111 if funct3(w) == 0 => Insn::Jalr { rd: xd(w), rs1: x1(w), imm: imm_i(w) },
+        0b110_0011 => {
+            Insn::Branch { cond: condition(funct3(w))?, rs1: x1(w), rs2: x2(w), off: imm_b(w) }
         }
-        0b110_0011 => Insn::Branch {
-            cond: condition(funct3(w))?,
-            rs1: X::new(rs1(w)),
-            rs2: X::new(rs2(w)),
-            off: imm_b(w),
-        },
-        0b000_0011 => Insn::Load {
-            kind: load_kind(funct3(w))?,
-            rd: X::new(rd(w)),
-            rs1: X::new(rs1(w)),
-            off: imm_i(w),
-        },
-        0b010_0011 => Insn::Store {
-            kind: match funct3(w) {
-                0b000 => StoreKind::B,
-                0b001 => StoreKind::H,
-                0b010 => StoreKind::W,
-                _ => return None,
-            },
-            rs1: X::new(rs1(w)),
-            rs2: X::new(rs2(w)),
-            off: imm_s(w),
-        },
+        0b000_0011 => {
+            Insn::Load { kind: load_kind(funct3(w))?, rd: xd(w), rs1: x1(w), off: imm_i(w) }
+        }
+        0b010_0011 => {
+            Insn::Store { kind: store_kind(funct3(w))?, rs1: x1(w), rs2: x2(w), off: imm_s(w) }
+        }
         0b001_0011 => return alu_imm(w),
-        0b011_0011 => Insn::Alu {
-            op: alu_op(funct7(w), funct3(w))?,
-            rd: X::new(rd(w)),
-            rs1: X::new(rs1(w)),
-            rs2: X::new(rs2(w)),
-        },
+        0b011_0011 => {
+            Insn::Alu { op: alu_op(funct7(w), funct3(w))?, rd: xd(w), rs1: x1(w), rs2: x2(w) }
+        }
         0b000_1111 if funct3(w) == 0 => Insn::Fence,
         0b111_0011 => return csr(w),
         0b101_1011 => return ventus_branch(w),
@@ -379,6 +381,16 @@ fn load_kind(funct3: u32) -> Option<LoadKind> {
 }
 
 #[inline(always)]
+fn store_kind(funct3: u32) -> Option<StoreKind> {
+    Some(match funct3 {
+        0b000 => StoreKind::B,
+        0b001 => StoreKind::H,
+        0b010 => StoreKind::W,
+        _ => return None,
+    })
+}
+
+#[inline(always)]
 fn alu_imm(w: u32) -> Option<Insn> {
     let (op, imm) = match (funct3(w), funct7(w)) {
         (0b000, _) => (AluOp::Add, imm_i(w)),
@@ -392,7 +404,7 @@ fn alu_imm(w: u32) -> Option<Insn> {
         (0b101, 0b010_0000) => (AluOp::Sra, rs2(w)),
         _ => return None,
     };
-    Some(Insn::AluImm { op, rd: X::new(rd(w)), rs1: X::new(rs1(w)), imm })
+    Some(Insn::AluImm { op, rd: xd(w), rs1: x1(w), imm })
 }
 
 #[inline(always)]
@@ -428,21 +440,16 @@ fn csr(w: u32) -> Option<Insn> {
         0b11 => CsrOp::Clear,
         _ => return None,
     };
-    let src = if funct3(w) & 0b100 == 0 { CsrSrc::X(X::new(rs1(w))) } else { CsrSrc::I(rs1(w)) };
-    Some(Insn::Csr { op, rd: X::new(rd(w)), csr: field(w, 31, 20), src })
+    let src = if funct3(w) & 0b100 == 0 { CsrSrc::X(x1(w)) } else { CsrSrc::I(rs1(w)) };
+    Some(Insn::Csr { op, rd: xd(w), csr: field(w, 31, 20), src })
 }
 
 #[inline(always)]
 fn ventus_branch(w: u32) -> Option<Insn> {
     match funct3(w) {
         0b010 if w == JOIN => Some(Insn::Join),
-        0b011 => Some(Insn::SetRpc { rd: X::new(rd(w)), rs1: X::new(rs1(w)), imm: imm_i(w) }),
-        f => Some(Insn::Vbranch {
-            cond: condition(f)?,
-            vs1: V::new(rs1(w)),
-            vs2: V::new(rs2(w)),
-            off: imm_b(w),
-        }),
+        0b011 => Some(Insn::SetRpc { rd: xd(w), rs1: x1(w), imm: imm_i(w) }),
+        f => Some(Insn::Vbranch { cond: condition(f)?, vs1: v1(w), vs2: v2(w), off: imm_b(w) }),
     }
 }
 
@@ -499,15 +506,15 @@ fn vector_integer(w: u32) -> Option<Insn> {
         _ => return None,
     };
     let src = match funct3(w) {
-        0b000 if vv => VSrc::V(V::new(rs1(w))),
-        0b100 if vx => VSrc::X(X::new(rs1(w))),
+        0b000 if vv => VSrc::V(v1(w)),
+        0b100 if vx => VSrc::X(x1(w)),
         0b011 if vi => VSrc::I(match op {
             VOp::Sll | VOp::Srl | VOp::Sra => rs1(w),
             _ => sext(rs1(w), 5),
         }),
         _ => return None,
     };
-    Some(Insn::Vec { op, vd: V::new(rd(w)), vs2: V::new(rs2(w)), src })
+    Some(Insn::Vec { op, vd: vd(w), vs2: v2(w), src })
 }
 
 #[inline(always)]
@@ -522,24 +529,18 @@ fn vector_m(w: u32) -> Option<Insn> {
         0b100101 => VOp::Mul,
         0b100110 => VOp::Mulhsu,
         0b100111 => VOp::Mulh,
-        0b010000 if vv && rs1(w) == 0 => {
-            return Some(Insn::VmvXS { rd: X::new(rd(w)), vs2: V::new(rs2(w)) })
-        }
-        0b010000 if !vv && rs2(w) == 0 => {
-            return Some(Insn::VmvSX { vd: V::new(rd(w)), rs1: X::new(rs1(w)) })
-        }
-        0b010100 if vv && rs2(w) == 0 && rs1(w) == 0b10001 => {
-            return Some(Insn::Vid { vd: V::new(rd(w)) })
-        }
+        0b010000 if vv && rs1(w) == 0 => return Some(Insn::VmvXS { rd: xd(w), vs2: v2(w) }),
+        0b010000 if !vv && rs2(w) == 0 => return Some(Insn::VmvSX { vd: vd(w), rs1: x1(w) }),
+        0b010100 if vv && rs2(w) == 0 && rs1(w) == 0b10001 => return Some(Insn::Vid { vd: vd(w) }),
         _ => return None,
     };
-    let src = if vv { VSrc::V(V::new(rs1(w))) } else { VSrc::X(X::new(rs1(w))) };
-    Some(Insn::Vec { op, vd: V::new(rd(w)), vs2: V::new(rs2(w)), src })
+    let src = if vv { VSrc::V(v1(w)) } else { VSrc::X(x1(w)) };
+    Some(Insn::Vec { op, vd: vd(w), vs2: v2(w), src })
 }
 
 #[inline(always)]
 fn vector_memory(w: u32, space: Space) -> Option<Insn> {
-    let vs1 = V::new(rs1(w));
+    let vs1 = v1(w);
     let kind = match funct3(w) {
         0b111 => StoreKind::B,
         0b011 => StoreKind::H,
@@ -549,12 +550,12 @@ fn vector_memory(w: u32, space: Space) -> Option<Insn> {
                 Space::Flat => imm_i(w),
                 Space::Private => sext(field(w, 30, 20), 11),
             };
-            return Some(Insn::Vload { space, kind: load_kind(f)?, vd: V::new(rd(w)), vs1, off });
+            return Some(Insn::Vload { space, kind: load_kind(f)?, vd: vd(w), vs1, off });
         }
     };
     let off = match space {
         Space::Flat => imm_s(w),
         Space::Private => sext(field(w, 30, 25) << 5 | field(w, 11, 7), 11),
     };
-    Some(Insn::Vstore { space, kind, vs1, vs2: V::new(rs2(w)), off })
+    Some(Insn::Vstore { space, kind, vs1, vs2: v2(w), off })
 }

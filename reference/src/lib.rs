@@ -1,5 +1,5 @@
 //! Reference interpreter of the warp bench machine, written from the rules
-//! (the scope paper) alone. It shares no code with the machine it checks.
+//! (docs/DEFINITION.md) alone. It shares no code with the machine it checks.
 #![forbid(unsafe_code)]
 
 pub mod card;

@@ -1,11 +1,19 @@
 //! Run one warp: `reference CARD KERNEL DATA`. A missing file counts as empty.
 
 use reference::{card, print, run, Refusal};
+use std::ffi::OsString;
+use std::process::ExitCode;
 
-fn main() {
-    let mut files = std::env::args().skip(1).map(|name| std::fs::read(name).unwrap_or_default());
-    let mut next = || files.next().unwrap_or_default();
-    print!("{}", report(&next(), &next(), &mut next()));
+fn main() -> ExitCode {
+    let files: Vec<OsString> = std::env::args_os().skip(1).collect();
+    if let [card, kernel, data] = &files[..] {
+        let read = |name: &OsString| std::fs::read(name).unwrap_or_default();
+        print!("{}", report(&read(card), &read(kernel), &mut read(data)));
+        ExitCode::SUCCESS
+    } else {
+        eprintln!("usage: reference CARD KERNEL DATA   (a missing file counts as empty)");
+        ExitCode::from(2)
+    }
 }
 
 fn report(card_bytes: &[u8], kernel_bytes: &[u8], data: &mut [u8]) -> String {

@@ -54,16 +54,6 @@ pub fn to_words(warp: &Warp) -> [u32; WORDS] {
 /// nor 1, or more than 31 open, is 2. Nothing else is tested here.
 pub fn from_words(words: &[u32]) -> Result<Warp, Refusal> {
     let words: &[u32; WORDS] = words.try_into().map_err(|_| Refusal::Size)?;
-    let flag = |word: u32| match word {
-        0 => Ok(false),
-        1 => Ok(true),
-        _ => Err(Refusal::IllFormed),
-    };
-    let mut splits = [Split::default(); SPLITS];
-    for (split, w) in splits.iter_mut().zip(words[SPLITS_AT..OPEN_AT].chunks_exact(SPLIT_WORDS)) {
-        *split =
-            Split { rpc: w[0], full: w[1], else_mask: w[2], else_pc: w[3], phase_two: flag(w[4])? };
-    }
     if words[OPEN_AT] as usize > SPLITS {
         return Err(Refusal::IllFormed);
     }
@@ -71,7 +61,7 @@ pub fn from_words(words: &[u32]) -> Result<Warp, Refusal> {
     x.copy_from_slice(&words[..SPLITS_AT]);
     Ok(Warp {
         x,
-        splits,
+        splits: splits_of(words)?,
         depth: words[OPEN_AT],
         pc: words[PC_AT],
         mask: words[MASK_AT],
@@ -79,22 +69,43 @@ pub fn from_words(words: &[u32]) -> Result<Warp, Refusal> {
         print: words[PRINT_AT],
         ended: flag(words[ENDED_AT])?,
         waiting: flag(words[WAITING_AT])?,
-        fixed: Fixed {
-            numt: words[FIXED_AT],
-            numw: words[FIXED_AT + 1],
-            wid: words[FIXED_AT + 2],
-            mask: words[FIXED_AT + 3],
-            code_base: words[CODE_BASE_AT],
-            data_base: words[DATA_BASE_AT],
-            knl: words[FIXED_AT + 6],
-            wgid: words[FIXED_AT + 7],
-            lds: words[FIXED_AT + 8],
-            pds: words[FIXED_AT + 9],
-            gidx: words[FIXED_AT + 10],
-            gidy: words[FIXED_AT + 11],
-            gidz: words[FIXED_AT + 12],
-        },
+        fixed: fixed_of(words),
     })
+}
+
+fn flag(word: u32) -> Result<bool, Refusal> {
+    match word {
+        0 => Ok(false),
+        1 => Ok(true),
+        _ => Err(Refusal::IllFormed),
+    }
+}
+
+fn splits_of(words: &[u32; WORDS]) -> Result<[Split; SPLITS], Refusal> {
+    let mut splits = [Split::default(); SPLITS];
+    for (split, w) in splits.iter_mut().zip(words[SPLITS_AT..OPEN_AT].chunks_exact(SPLIT_WORDS)) {
+        *split =
+            Split { rpc: w[0], full: w[1], else_mask: w[2], else_pc: w[3], phase_two: flag(w[4])? };
+    }
+    Ok(splits)
+}
+
+fn fixed_of(words: &[u32; WORDS]) -> Fixed {
+    Fixed {
+        numt: words[FIXED_AT],
+        numw: words[FIXED_AT + 1],
+        wid: words[FIXED_AT + 2],
+        mask: words[FIXED_AT + 3],
+        code_base: words[CODE_BASE_AT],
+        data_base: words[DATA_BASE_AT],
+        knl: words[FIXED_AT + 6],
+        wgid: words[FIXED_AT + 7],
+        lds: words[FIXED_AT + 8],
+        pds: words[FIXED_AT + 9],
+        gidx: words[FIXED_AT + 10],
+        gidy: words[FIXED_AT + 11],
+        gidz: words[FIXED_AT + 12],
+    }
 }
 
 /// Launch from a card into the place of a state: 13 or 1 for the card, then 1

@@ -1,6 +1,7 @@
 //! The instruction tables a second time, as bit patterns: each variant is its
-//! fixed bits and its free bits. The generator draws words from it, and the
-//! tests hold it against `isa::decode`.
+//! fixed bits and its free bits; and the fields that words are put together
+//! from. The generator draws words from it, and the tests hold it against
+//! `isa::decode`.
 
 use crate::isa::{AluOp, Cond, CsrOp, CsrSrc, Insn, LoadKind, Space, StoreKind, VOp, VSrc};
 
@@ -36,73 +37,139 @@ pub struct Variant {
     pub shape: Shape,
 }
 
+pub const NOP: u32 = 0x13;
+pub const BARRIER: u32 = 0x0400_400b;
+
 pub const RD: u32 = 0x1f << 7;
 pub const RS1: u32 = 0x1f << 15;
 pub const RS2: u32 = 0x1f << 20;
 pub const F7: u32 = 0x7f << 25;
-const I: u32 = RD | RS1 | RS2 | F7;
-const S: u32 = I;
+/// The free bits of a word with two sources, and of one with an I or S immediate.
+const R: u32 = RD | RS1 | RS2;
+const I: u32 = R | F7;
 
-/// Every instruction of the tables in every form.
-pub fn variants() -> Vec<Variant> {
-    let mut all = Vec::new();
-    let mut add = |name: &str, fixed: u32, free: u32, shape: Shape| {
-        all.push(Variant { name: name.to_string(), fixed, free, shape });
-    };
-    let f3 = |n: u32| n << 12;
-    let f7 = |n: u32| n << 25;
+const BIT_31: u32 = 1 << 31;
 
-    add("lui", 0x37, !0x7f, Shape::Plain);
-    add("auipc", 0x17, !0x7f, Shape::Plain);
-    add("jal", 0x6f, !0x7f, Shape::Jal);
-    add("jalr", 0x67, I, Shape::Jalr);
-    for (n, name) in [(0, "eq"), (1, "ne"), (4, "lt"), (5, "ge"), (6, "ltu"), (7, "geu")] {
-        add(&format!("b{name}"), 0x63 | f3(n), I, Shape::Branch);
-        add(&format!("vb{name}"), 0x5b | f3(n), I, Shape::Branch);
+impl Variant {
+    fn new(name: impl Into<String>, fixed: u32, free: u32, shape: Shape) -> Variant {
+        Variant { name: name.into(), fixed, free, shape }
     }
+
+    fn plain(name: impl Into<String>, fixed: u32, free: u32) -> Variant {
+        Variant::new(name, fixed, free, Shape::Plain)
+    }
+}
+
+const fn f3(n: u32) -> u32 {
+    n << 12
+}
+const fn f7(n: u32) -> u32 {
+    n << 25
+}
+
+/// Every instruction of the tables in every form. The generator draws from
+/// them by place: another order makes other cases.
+pub fn variants() -> Vec<Variant> {
+    [
+        upper_and_jumps(),
+        accesses(),
+        with_immediates(),
+        with_registers(),
+        system_and_control(),
+        lane_integers(),
+        lane_moves(),
+        lane_products(),
+        lane_others(),
+    ]
+    .concat()
+}
+
+fn upper_and_jumps() -> Vec<Variant> {
+    let mut all = vec![
+        Variant::plain("lui", 0x37, !0x7f),
+        Variant::plain("auipc", 0x17, !0x7f),
+        Variant::new("jal", 0x6f, !0x7f, Shape::Jal),
+        Variant::new("jalr", 0x67, I, Shape::Jalr),
+    ];
+    for (n, name) in [(0, "eq"), (1, "ne"), (4, "lt"), (5, "ge"), (6, "ltu"), (7, "geu")] {
+        all.push(Variant::new(format!("b{name}"), 0x63 | f3(n), I, Shape::Branch));
+        all.push(Variant::new(format!("vb{name}"), 0x5b | f3(n), I, Shape::Branch));
+    }
+    all
+}
+
+fn accesses() -> Vec<Variant> {
+    let mut all = Vec::new();
+    let mut add = |name: String, opcode: u32, funct3: u32, free: u32, shape: Shape| {
+        all.push(Variant::new(name, opcode | f3(funct3), free, shape));
+    };
     for (n, name) in [(0, "b"), (1, "h"), (2, "w"), (4, "bu"), (5, "hu")] {
-        add(&format!("l{name}"), 0x03 | f3(n), I, Shape::Load);
-        add(&format!("vl{name}12"), 0x7b | f3(n), I, Shape::Vload);
-        add(&format!("vl{name}.p"), 0x2b | f3(n), I & !(1 << 31), Shape::PrivateLoad);
+        add(format!("l{name}"), 0x03, n, I, Shape::Load);
+        add(format!("vl{name}12"), 0x7b, n, I, Shape::Vload);
+        add(format!("vl{name}.p"), 0x2b, n, I & !BIT_31, Shape::PrivateLoad);
     }
     for (n, name) in [(0, "sb"), (1, "sh"), (2, "sw")] {
-        add(name, 0x23 | f3(n), S, Shape::Store);
+        add(name.into(), 0x23, n, I, Shape::Store);
     }
     for (n, name) in [(7, "b"), (3, "h"), (6, "w")] {
-        add(&format!("vs{name}12"), 0x7b | f3(n), S, Shape::Vstore);
-        add(&format!("vs{name}.p"), 0x2b | f3(n), S & !(1 << 31), Shape::PrivateStore);
+        add(format!("vs{name}12"), 0x7b, n, I, Shape::Vstore);
+        add(format!("vs{name}.p"), 0x2b, n, I & !BIT_31, Shape::PrivateStore);
     }
-    for (n, name) in [(0, "addi"), (2, "slti"), (3, "sltiu"), (4, "xori"), (6, "ori"), (7, "andi")]
-    {
-        add(name, 0x13 | f3(n), I, Shape::Plain);
-    }
-    add("slli", 0x13 | f3(1), RD | RS1 | RS2, Shape::Plain);
-    add("srli", 0x13 | f3(5), RD | RS1 | RS2, Shape::Plain);
-    add("srai", 0x13 | f3(5) | f7(0x20), RD | RS1 | RS2, Shape::Plain);
-    for (n, name) in ["add", "sll", "slt", "sltu", "xor", "srl", "or", "and"].iter().enumerate() {
-        add(name, 0x33 | f3(n as u32), RD | RS1 | RS2, Shape::Plain);
-    }
-    add("sub", 0x33 | f7(0x20), RD | RS1 | RS2, Shape::Plain);
-    add("sra", 0x33 | f3(5) | f7(0x20), RD | RS1 | RS2, Shape::Plain);
-    let m = ["mul", "mulh", "mulhsu", "mulhu", "div", "divu", "rem", "remu"];
-    for (n, name) in m.iter().enumerate() {
-        add(name, 0x33 | f3(n as u32) | f7(1), RD | RS1 | RS2, Shape::Plain);
-    }
-    add("fence", 0x0f, I, Shape::Plain);
+    all
+}
+
+fn with_immediates() -> Vec<Variant> {
+    let names = [(0, "addi"), (2, "slti"), (3, "sltiu"), (4, "xori"), (6, "ori"), (7, "andi")];
+    let mut all: Vec<Variant> =
+        names.iter().map(|(n, name)| Variant::plain(*name, 0x13 | f3(*n), I)).collect();
+    all.push(Variant::plain("slli", 0x13 | f3(1), R));
+    all.push(Variant::plain("srli", 0x13 | f3(5), R));
+    all.push(Variant::plain("srai", 0x13 | f3(5) | f7(0x20), R));
+    all
+}
+
+fn with_registers() -> Vec<Variant> {
+    let by_funct3 = |names: [&str; 8], funct7: u32| {
+        (0..)
+            .zip(names)
+            .map(|(n, name)| Variant::plain(name, 0x33 | f3(n) | f7(funct7), R))
+            .collect()
+    };
+    let base: Vec<Variant> = by_funct3(["add", "sll", "slt", "sltu", "xor", "srl", "or", "and"], 0);
+    let signed = vec![
+        Variant::plain("sub", 0x33 | f7(0x20), R),
+        Variant::plain("sra", 0x33 | f3(5) | f7(0x20), R),
+    ];
+    let products = by_funct3(["mul", "mulh", "mulhsu", "mulhu", "div", "divu", "rem", "remu"], 1);
+    [base, signed, products].concat()
+}
+
+fn system_and_control() -> Vec<Variant> {
     let csr =
         [(1, "csrrw"), (2, "csrrs"), (3, "csrrc"), (5, "csrrwi"), (6, "csrrsi"), (7, "csrrci")];
-    for (n, name) in csr {
-        add(name, 0x73 | f3(n), I, Shape::Csr);
-    }
-    add("join", 0x205b, 0, Shape::Control);
-    add("setrpc", 0x305b, I, Shape::SetRpc);
-    add("endprg", 0x400b, 0, Shape::Control);
-    add("barrier", 0x0400_400b, RS1, Shape::Control);
+    let mut all = vec![Variant::plain("fence", 0x0f, I)];
+    all.extend(csr.iter().map(|(n, name)| Variant::new(*name, 0x73 | f3(*n), I, Shape::Csr)));
+    all.push(Variant::new("join", 0x205b, 0, Shape::Control));
+    all.push(Variant::new("setrpc", 0x305b, I, Shape::SetRpc));
+    all.push(Variant::new("endprg", 0x400b, 0, Shape::Control));
+    all.push(Variant::new("barrier", BARRIER, RS1, Shape::Control));
+    all
+}
 
-    let (vv, vi, vx) = (0, 3, 4);
-    let v = |funct6: u32, form: u32| 0x57 | funct6 << 26 | 1 << 25 | f3(form);
-    let vregs = RD | RS1 | RS2;
-    let integer: [(u32, &str, &str); 21] = [
+const VV: u32 = 0;
+const VI: u32 = 3;
+const VX: u32 = 4;
+/// The forms of the M group and what shares its codes.
+const MVV: u32 = 2;
+const MVX: u32 = 6;
+
+/// A vector word that is not masked.
+const fn v(funct6: u32, form: u32) -> u32 {
+    0x57 | funct6 << 26 | 1 << 25 | f3(form)
+}
+
+fn lane_integers() -> Vec<Variant> {
+    let operations: [(u32, &str, &str); 21] = [
         (0, "vadd", "vxi"),
         (2, "vsub", "vx"),
         (3, "vrsub", "xi"),
@@ -125,37 +192,84 @@ pub fn variants() -> Vec<Variant> {
         (0x1e, "vmsgtu", "xi"),
         (0x1f, "vmsgt", "xi"),
     ];
-    for (funct6, name, forms) in integer {
-        for form in forms.chars() {
-            let n = match form {
-                'v' => vv,
-                'x' => vx,
-                _ => vi,
-            };
-            add(&format!("{name}.v{form}"), v(funct6, n), vregs, Shape::Plain);
-        }
+    let forms = [('v', VV), ('x', VX), ('i', VI)];
+    let variant = |(funct6, name, taken): (u32, &str, &str)| -> Vec<Variant> {
+        let taken = forms.iter().filter(|(letter, _)| taken.contains(*letter));
+        taken.map(|(l, form)| Variant::plain(format!("{name}.v{l}"), v(funct6, *form), R)).collect()
+    };
+    operations.into_iter().flat_map(variant).collect()
+}
+
+fn lane_moves() -> Vec<Variant> {
+    let forms = [("vmv.vv", VV), ("vmv.vx", VX), ("vmv.vi", VI)];
+    forms.iter().map(|(name, form)| Variant::plain(*name, v(0x17, *form), RD | RS1)).collect()
+}
+
+fn lane_products() -> Vec<Variant> {
+    let names = ["vdivu", "vdiv", "vremu", "vrem", "vmulhu", "vmul", "vmulhsu", "vmulh"];
+    let forms = |(funct6, name): (u32, &str)| {
+        [
+            Variant::plain(format!("{name}.vv"), v(funct6, MVV), R),
+            Variant::plain(format!("{name}.vx"), v(funct6, MVX), R),
+        ]
+    };
+    (0x20..).zip(names).flat_map(forms).collect()
+}
+
+fn lane_others() -> Vec<Variant> {
+    vec![
+        Variant::new("vmv.x.s", v(0x10, MVV), RD | RS2, Shape::VmvXS),
+        Variant::plain("vmv.s.x", v(0x10, MVX), RD | RS1),
+        Variant::plain("vid.v", v(0x14, MVV) | rs1(0x11), RD),
+    ]
+}
+
+// The fields of a word.
+
+pub fn enc_i(imm: i32) -> u32 {
+    (imm as u32 & 0xfff) << 20
+}
+pub fn enc_s(imm: i32) -> u32 {
+    let imm = imm as u32;
+    (imm >> 5 & 0x7f) << 25 | (imm & 31) << 7
+}
+pub fn enc_b(off: i32) -> u32 {
+    let o = off as u32;
+    (o >> 12 & 1) << 31 | (o >> 5 & 63) << 25 | (o >> 1 & 15) << 8 | (o >> 11 & 1) << 7
+}
+pub fn enc_j(off: i32) -> u32 {
+    let o = off as u32;
+    (o >> 20 & 1) << 31 | (o >> 1 & 0x3ff) << 21 | (o >> 11 & 1) << 20 | (o >> 12 & 0xff) << 12
+}
+pub fn rd(n: u32) -> u32 {
+    n << 7
+}
+pub fn rs1(n: u32) -> u32 {
+    n << 15
+}
+pub fn rs2(n: u32) -> u32 {
+    n << 20
+}
+
+/// The variants by name.
+pub struct Table {
+    pub all: Vec<Variant>,
+}
+
+impl Table {
+    pub fn whole() -> Table {
+        Table { all: variants() }
     }
-    add("vmv.vv", v(0x17, vv), RD | RS1, Shape::Plain);
-    add("vmv.vx", v(0x17, vx), RD | RS1, Shape::Plain);
-    add("vmv.vi", v(0x17, vi), RD | RS1, Shape::Plain);
-    let vm = [
-        (0x20, "vdivu"),
-        (0x21, "vdiv"),
-        (0x22, "vremu"),
-        (0x23, "vrem"),
-        (0x24, "vmulhu"),
-        (0x25, "vmul"),
-        (0x26, "vmulhsu"),
-        (0x27, "vmulh"),
-    ];
-    for (funct6, name) in vm {
-        add(&format!("{name}.vv"), v(funct6, 2), vregs, Shape::Plain);
-        add(&format!("{name}.vx"), v(funct6, 6), vregs, Shape::Plain);
+    pub fn get(&self, name: &str) -> &Variant {
+        self.all.iter().find(|v| v.name == name).unwrap_or_else(|| panic!("no variant {name}"))
     }
-    add("vmv.x.s", v(0x10, 2), RD | RS2, Shape::VmvXS);
-    add("vmv.s.x", v(0x10, 6), RD | RS1, Shape::Plain);
-    add("vid.v", v(0x14, 2) | 0x11 << 15, RD, Shape::Plain);
-    all
+    pub fn fixed(&self, name: &str) -> u32 {
+        self.get(name).fixed
+    }
+    /// Those that are to be kept, in the tables' order.
+    pub fn with(&self, keep: impl Fn(&Variant) -> bool) -> Vec<&Variant> {
+        self.all.iter().filter(|v| keep(v)).collect()
+    }
 }
 
 /// The name of a decoded instruction, as `variants` has it.
@@ -173,27 +287,12 @@ pub fn name(insn: &Insn) -> String {
         Insn::AluImm { op, .. } => format!("{}i", alu_name(*op)),
         Insn::Alu { op, .. } => alu_name(*op).into(),
         Insn::Fence => "fence".into(),
-        Insn::Csr { op, src, .. } => {
-            let op = match op {
-                CsrOp::Write => "w",
-                CsrOp::Set => "s",
-                CsrOp::Clear => "c",
-            };
-            let form = if matches!(src, CsrSrc::I(_)) { "i" } else { "" };
-            format!("csrr{op}{form}")
-        }
+        Insn::Csr { op, src, .. } => csr_name(*op, *src),
         Insn::Join => "join".into(),
         Insn::SetRpc { .. } => "setrpc".into(),
         Insn::EndPrg => "endprg".into(),
         Insn::Barrier => "barrier".into(),
-        Insn::Vec { op, src, .. } => {
-            let form = match src {
-                VSrc::V(_) => "vv",
-                VSrc::X(_) => "vx",
-                VSrc::I(_) => "vi",
-            };
-            format!("{}.{form}", vop_name(*op))
-        }
+        Insn::Vec { op, src, .. } => format!("{}.{}", vop_name(*op), form_name(*src)),
         Insn::VmvSX { .. } => "vmv.s.x".into(),
         Insn::VmvXS { .. } => "vmv.x.s".into(),
         Insn::Vid { .. } => "vid.v".into(),
@@ -201,6 +300,24 @@ pub fn name(insn: &Insn) -> String {
         Insn::Vstore { space, kind, .. } => {
             format!("vs{}{}", store_name(*kind), space_name(*space))
         }
+    }
+}
+
+fn csr_name(op: CsrOp, src: CsrSrc) -> String {
+    let op = match op {
+        CsrOp::Write => "w",
+        CsrOp::Set => "s",
+        CsrOp::Clear => "c",
+    };
+    let form = if matches!(src, CsrSrc::I(_)) { "i" } else { "" };
+    format!("csrr{op}{form}")
+}
+
+fn form_name(src: VSrc) -> &'static str {
+    match src {
+        VSrc::V(_) => "vv",
+        VSrc::X(_) => "vx",
+        VSrc::I(_) => "vi",
     }
 }
 

@@ -665,29 +665,28 @@ fn x0_stays_zero() {
     }
 }
 
+/// The answer to a launch with runs of these lengths. A refused one leaves the
+/// vector file, and a run over the same lengths is refused alike.
+fn try_launch(l: &Launch, kernel: usize, vector: usize, data: usize) -> u32 {
+    let (nops, mut v, mut d) = (vec![0x13; kernel], vec![5; vector], vec![0; data]);
+    let (code, warp) = run::launch(l, &nops, &mut v, &d);
+    if code != 0 {
+        assert_eq!(warp, Warp::default());
+        assert!(v.iter().all(|w| *w == 5));
+    }
+    let mut warp = Warp::launched(l);
+    let before = warp.clone();
+    let answer = run::run(&mut warp, &nops, &mut v, &mut d, 0);
+    if l.in_range() {
+        assert_eq!(answer, (code, 0));
+    }
+    assert_eq!(warp, before);
+    code
+}
+
 #[test]
 fn run_sizes() {
     let l = launch(4);
-    let nops = vec![0x13; 16_385];
-    let bytes = vec![0; 65_537];
-    let try_launch = |l: &Launch, kernel: usize, vector: usize, data: usize| {
-        let mut v = vec![5; vector];
-        let (code, warp) = run::launch(l, &nops[..kernel], &mut v, &bytes[..data]);
-        if code != 0 {
-            assert_eq!(warp, Warp::default());
-            assert!(v.iter().all(|w| *w == 5));
-        }
-        // A run over the same sizes is refused alike.
-        let mut warp = Warp::launched(l);
-        let before = warp.clone();
-        let mut d = bytes[..data].to_vec();
-        let answer = run::run(&mut warp, &nops[..kernel], &mut v, &mut d, 0);
-        if l.in_range() {
-            assert_eq!(answer, (code, 0));
-        }
-        assert_eq!(warp, before);
-        code
-    };
     assert_eq!(try_launch(&l, 1, 1024, 0), 0);
     assert_eq!(try_launch(&l, 16_384, 1024, 65_536), 0);
     for (kernel, vector, data) in [
@@ -701,15 +700,22 @@ fn run_sizes() {
     ] {
         assert_eq!(try_launch(&l, kernel, vector, data), 1);
     }
-    let with = |change: &dyn Fn(&mut Launch)| {
-        let mut l = l;
-        change(&mut l);
-        l
-    };
-    assert_eq!(try_launch(&with(&|l| l.fixed.code_base = 0xffff_fff8), 2, 1024, 0), 0);
-    assert_eq!(try_launch(&with(&|l| l.fixed.code_base = 0xffff_fff8), 3, 1024, 0), 1);
-    assert_eq!(try_launch(&with(&|l| l.fixed.data_base = 0xffff_ffff), 1, 1024, 1), 0);
-    assert_eq!(try_launch(&with(&|l| l.fixed.data_base = 0xffff_ffff), 1, 1024, 2), 1);
+}
+
+#[test]
+fn runs_at_the_end_of_the_space() {
+    let mut l = launch(4);
+    l.fixed.code_base = 0xffff_fff8;
+    assert_eq!(try_launch(&l, 2, 1024, 0), 0);
+    assert_eq!(try_launch(&l, 3, 1024, 0), 1);
+    let mut l = launch(4);
+    l.fixed.data_base = 0xffff_ffff;
+    assert_eq!(try_launch(&l, 1, 1024, 1), 0);
+    assert_eq!(try_launch(&l, 1, 1024, 2), 1);
+}
+
+#[test]
+fn launch_values_out_of_range() {
     let bad: [&dyn Fn(&mut Launch); 9] = [
         &|l| l.fixed.numt = 0,
         &|l| l.fixed.numt = 33,
@@ -722,7 +728,8 @@ fn run_sizes() {
         &|l| l.entry += 1,
     ];
     for change in bad {
-        let l = with(change);
+        let mut l = launch(4);
+        change(&mut l);
         assert_eq!(try_launch(&l, 1, 1024, 0), 1);
         assert_eq!(code(card::write(&l, &mut [0; 50])), 1);
     }

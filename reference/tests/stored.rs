@@ -1,5 +1,6 @@
-//! The stored files: the generated cases are what the generator makes, every
-//! stored answer is the reference's, and every published program passes.
+//! The stored files: the generated cases and their statistics are what the
+//! generator makes, every stored answer is the reference's, and every published
+//! program passes.
 
 use reference::case::{evaluate, read_file, write_file, Case};
 use std::path::PathBuf;
@@ -25,15 +26,17 @@ fn answers(file: &str) -> String {
 }
 
 #[test]
-fn generated_cases_are_what_is_made() {
-    let status = Command::new(env!("CARGO_BIN_EXE_cases"))
+fn generated_cases_and_statistics_are_what_is_made() {
+    let made = Command::new(env!("CARGO_BIN_EXE_cases"))
         .arg("check")
         .arg(stored("data").join("generated.bin"))
         .output()
-        .expect("the generator runs")
-        .status;
-    assert!(status.success());
+        .expect("the generator runs");
+    let printed = String::from_utf8(made.stderr).expect("text");
+    assert!(made.status.success(), "{printed}");
     assert!(cases("generated.bin").len() >= 5_000);
+    let statistics = stored("../../reference/generated-statistics.txt");
+    assert_eq!(printed, std::fs::read_to_string(statistics).expect("the statistics"));
 }
 
 #[test]

@@ -4,8 +4,9 @@
 
 use linked::{number_or, usage_error, Lent, Linked, Machine, Reference};
 use reference::case::Case;
-use reference::generate::{all_cases, Rng, Table, NOP};
+use reference::generate::{all_cases, Rng};
 use reference::isa::ENDPRG;
+use reference::table::{Table, NOP};
 use reference::{run, saved, Refusal};
 use std::collections::BTreeMap;
 use std::fmt::LowerHex;

@@ -2,9 +2,9 @@
 #![forbid(unsafe_code)]
 
 use linked::{number_or, usage_error, Lent, Linked, Machine, Reference};
-use reference::generate::{enc_b, enc_i, enc_j, enc_s, rd, rs1, rs2, Table};
 use reference::isa::{ENDPRG, JOIN};
 use reference::state::{Fixed, Launch};
+use reference::table::{enc_b, enc_i, enc_j, enc_s, rd, rs1, rs2, Table};
 use reference::{card, run, saved, Refusal};
 use std::process::ExitCode;
 use std::time::Instant;

@@ -14,37 +14,60 @@ use reference::{card, exec, run, saved};
 use std::collections::BTreeMap;
 use std::process::ExitCode;
 
+const USAGE: &str = "usage: cases make FILE
+       cases check FILE
+       cases answer FILE...";
+
 fn main() -> ExitCode {
     let args: Vec<String> = std::env::args().skip(1).collect();
     let args: Vec<&str> = args.iter().map(String::as_str).collect();
     let done = match args[..] {
-        ["make", file] => std::fs::write(file, make()).is_ok(),
-        ["check", file] => std::fs::read(file).map_or(false, |bytes| bytes == make()),
-        ["answer", ref files @ ..] => {
-            match files.iter().map(|file| answers(file)).collect::<Option<String>>() {
-                Some(text) => {
-                    print!("{text}");
-                    true
-                }
-                None => false,
-            }
-        }
+        ["make", file] => std::fs::write(file, make()).map_err(|error| format!("{file}: {error}")),
+        ["check", file] => check(file),
+        ["answer", ref files @ ..] if !files.is_empty() => answer(files),
         _ => {
-            eprintln!("usage: cases make|check FILE, or cases answer FILE...");
-            false
+            eprintln!("{USAGE}");
+            return ExitCode::from(2);
         }
     };
-    if done {
-        ExitCode::SUCCESS
-    } else {
-        eprintln!("failed");
-        ExitCode::FAILURE
+    match done {
+        Ok(()) => ExitCode::SUCCESS,
+        Err(wrong) => {
+            eprintln!("cases: {wrong}");
+            ExitCode::FAILURE
+        }
     }
 }
 
-fn answers(file: &str) -> Option<String> {
-    let cases = read_file(&std::fs::read(file).ok()?)?;
-    Some(cases.iter().enumerate().map(|(n, case)| evaluate(case).line(n)).collect())
+fn read(file: &str) -> Result<Vec<u8>, String> {
+    std::fs::read(file).map_err(|error| format!("{file}: {error}"))
+}
+
+fn cases(file: &str, bytes: &[u8]) -> Result<Vec<Case>, String> {
+    read_file(bytes).ok_or_else(|| format!("{file}: not a case file"))
+}
+
+fn check(file: &str) -> Result<(), String> {
+    let bytes = read(file)?;
+    let stored = cases(file, &bytes)?;
+    if bytes == make() {
+        return Ok(());
+    }
+    let differs = stored.iter().zip(&all_cases(0)).position(|(a, b)| a != b);
+    Err(match differs {
+        Some(n) => format!("{file}: differs from what is made here, first in case {n}"),
+        None => format!("{file}: differs from what is made here, after {} cases", stored.len()),
+    })
+}
+
+/// Nothing is printed where one of the files cannot be read.
+fn answer(files: &[&str]) -> Result<(), String> {
+    let answers = |file: &&str| -> Result<String, String> {
+        let cases = cases(file, &read(file)?)?;
+        Ok(cases.iter().enumerate().map(|(n, case)| evaluate(case).line(n)).collect())
+    };
+    print!("{}", files.iter().map(answers).collect::<Result<String, String>>()?);
+    Ok(())
 }
 
 fn make() -> Vec<u8> {
@@ -70,7 +93,7 @@ struct Stats {
 }
 
 impl Stats {
-    /// Step through a run and count; the end must be what the answer says.
+    /// Step through a run and count, up to the word that is refused if any is.
     fn trace(
         &mut self,
         mut warp: Warp,
@@ -84,24 +107,24 @@ impl Stats {
             let insn = exec::fetch(&warp, kernel).and_then(decode).expect("a word that was taken");
             assert_eq!(run::step(&mut warp, kernel, vector, data), 0);
             assert!(warp.well_formed(), "a step broke the state");
-            *self.executed.entry(name(&insn)).or_default() += 1;
+            let name = name(&insn);
+            if let Some(event) = event(&name, &before, &warp) {
+                *self.events.entry(event).or_default() += 1;
+            }
+            *self.executed.entry(name).or_default() += 1;
             self.deepest = self.deepest.max(warp.depth);
-            let event = match name(&insn).as_str() {
-                "join" if warp.depth < before.depth => "join closes",
-                "join" if warp.pc != before.pc.wrapping_add(4) || warp.splits != before.splits => {
-                    "join turns"
-                }
-                "join" if before.depth > 0 => "join passes in a split",
-                "join" => "join passes, none open",
-                n if n.starts_with("vb") && warp.depth > before.depth => "vbranch splits",
-                n if n.starts_with("vb") && warp.pc == before.pc.wrapping_add(4) => {
-                    "vbranch not taken"
-                }
-                n if n.starts_with("vb") => "vbranch taken by all",
-                _ => continue,
-            };
-            *self.events.entry(event).or_default() += 1;
         }
+        self.trace_refusal(warp, kernel, vector, data);
+    }
+
+    /// A refused step must change nothing.
+    fn trace_refusal(
+        &mut self,
+        mut warp: Warp,
+        kernel: &[u32],
+        vector: &mut [u32],
+        data: &mut [u8],
+    ) {
         if let Some(insn) = exec::fetch(&warp, kernel).and_then(decode) {
             let (now_vector, now_data) = (vector.to_vec(), data.to_vec());
             let before = warp.clone();
@@ -145,6 +168,21 @@ impl Stats {
         };
         *self.kinds.entry(kind).or_default() += 1;
     }
+}
+
+/// What a JOIN or a VBRANCH did.
+fn event(name: &str, before: &Warp, after: &Warp) -> Option<&'static str> {
+    let next = after.pc == before.pc.wrapping_add(4);
+    Some(match name {
+        "join" if after.depth < before.depth => "join closes",
+        "join" if !next || after.splits != before.splits => "join turns",
+        "join" if before.depth > 0 => "join passes in a split",
+        "join" => "join passes, none open",
+        _ if !name.starts_with("vb") => return None,
+        _ if after.depth > before.depth => "vbranch splits",
+        _ if next => "vbranch not taken",
+        _ => "vbranch taken by all",
+    })
 }
 
 fn statistics(cases: &[Case], file: usize) {
