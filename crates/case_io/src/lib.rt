@@ -2,6 +2,8 @@
 use warp::Fixed;
 use warp::Launch;
 ghost use Prim.Native.Nat.{_<_};
+ghost use mathlib.Core.Path.{_≡_};
+ghost use lib.ListN.{length};
 ghost use Rattle.io.specs.Counts.{Counts};
 
 const STATE_WORDS: usize = 207;
@@ -30,6 +32,25 @@ pub fn next_word(file: i32) -> u32 {
 }
 
 // ---- runs of words and bytes: a buffer's start, and how long it is
+
+// Room for one word or byte more than a kernel and data may have, and for the longest vector file of a case.
+pub fn kernel_room() -> [u32; 16385]
+    ensures { λ r. ⌜ 16385 ≡ length r ⌝ }
+{
+    [0; 16385]
+}
+
+pub fn data_room() -> [u8; 65537]
+    ensures { λ r. ⌜ 65537 ≡ length r ⌝ }
+{
+    [0; 65537]
+}
+
+pub fn vector_room() -> [u32; 1056]
+    ensures { λ r. ⌜ 1056 ≡ length r ⌝ }
+{
+    [0; 1056]
+}
 
 fn words_in(buffer: &[u32], n: u32) -> usize
     ensures { λ r. ⌜ Counts r (now (buffer .entry)) ⌝ }

@@ -71,9 +71,9 @@ fn run_lent(
 }
 
 fn run_case(file: i32, number: u32, kind: Kind, card: &[u8], state: &mut [u32]) {
-    let mut kernel = [0u32; 16385];
-    let mut bytes = [0u8; 65537];
-    let mut vector = [0u32; 1056];
+    let mut kernel = case_io::kernel_room();
+    let mut bytes = case_io::data_room();
+    let mut vector = case_io::vector_room();
     let k = case_io::read_kernel(file, &mut kernel);
     let b = case_io::read_data(file, &mut bytes);
     let v = case_io::read_vector(file, &mut vector);
