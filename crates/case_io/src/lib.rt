@@ -146,7 +146,7 @@ fn byte_from(stored: bool, file: i32, x: u32) -> u32 {
     }
 }
 
-// The words with index i to end - 1.
+// The words, and below the bytes, with index `from` to `end` - 1.
 fn put_words(source: Words, file: i32, seed: u32, to: &mut [u32], from: u32, end: u32) {
     let mut x = seed;
     let mut i = from;

@@ -24,6 +24,7 @@ use Rattle.definition.specs.Outcome.{Outcome}
 use Rattle.definition.specs.Exec.{effectOf, execOf}
 use Rattle.definition.specs.Step.{runsOkOf, stepOf}
 use Rattle.definition.specs.Calls.{launchedOf, Ran, stepsOf, runOf}
+use Rattle.promises.specs.Bound.{launchOn}
 
 pub record Case : Type 0 where
   pub got : List ℕ
@@ -33,31 +34,13 @@ infixr 68 _gives_
 abbrev pub _gives_ : List ℕ → List ℕ → Case
 a gives b = record { got = a; is = b }
 
--- ---- the machine of the cards: lanes of mask m, code and entry at 80000000, data at 1000; FENCE where nothing else stands
+-- ---- the machine of the cards: the launched lanes m of four, code and entry at 80000000, data at 0; FENCE where nothing else stands
 
 abbrev nop : ℕ
 nop = 0x0000000F
 
 abbrev warp : ℕ → Warp
-warp m =
-    launchedOf (record {
-      fixed = record {
-        numt = 4;
-        numw = 1;
-        wid = 0;
-        launchmask = m;
-        codebase = 0x80000000;
-        database = 0x1000;
-        knl = 0;
-        wgid = 0;
-        lds = 0;
-        pds = 0;
-        gidx = 0;
-        gidy = 0;
-        gidz = 0;
-      };
-      entry = 0x80000000;
-    })
+warp m = launchedOf (launchOn 4 m)
 
 -- v1 and v2 in four lanes
 abbrev file : List ℕ → List ℕ → List ℕ
@@ -102,7 +85,7 @@ compared word =
 
 -- ---- P10: VSW12 of v2 at v1's addresses, lane 3's one byte past the end of 16 bytes
 abbrev stored : Outcome
-stored = step 0x0020E07B 0xF (0x1000 ∷ 0x1004 ∷ 0x1008 ∷ 0x100D ∷ []) (1 ∷ 1 ∷ 1 ∷ 1 ∷ []) (replicate 16 7)
+stored = step 0x0020E07B 0xF (0 ∷ 4 ∷ 8 ∷ 13 ∷ []) (1 ∷ 1 ∷ 1 ∷ 1 ∷ []) (replicate 16 7)
 
 -- ---- P11: vmv.x.s x5, v1 over two lanes
 abbrev taken : List ℕ → Outcome
