@@ -1,14 +1,16 @@
 #!/bin/sh
-# tools/static_library.sh OUT.a: proves crate capi and writes its static library for the machine at hand.
-# On x86-64 it is what `rt staticlib capi` writes. On Arm, where rt writes the x86-64 one too, it is the same module compiled for
+# tools/static_library.sh CRATE OUT.a: proves a library crate and writes its static library for the machine at hand.
+# On x86-64 it is what `rt staticlib CRATE` writes. On Arm, where rt writes the x86-64 one too, it is the same module compiled for
 # Arm by the kit's own clang: for comparing and timing only, since the kit stands for no Arm code.
 set -eu
-[ $# -eq 1 ] || { echo 'usage: tools/static_library.sh OUT.a' >&2; exit 2; }
-case $1 in /*) out=$1 ;; *) out=$PWD/$1 ;; esac
-[ -d "$(dirname "$out")" ] || { echo "static_library.sh: $(dirname "$out"), where $1 is to be written, is not a folder" >&2; exit 2; }
-[ ! -d "$out" ] || { echo "static_library.sh: $1 is a folder" >&2; exit 2; }
-rt=$(command -v rt) || { echo 'static_library.sh: rt, the Rattle kit, is not on the path' >&2; exit 1; }
+[ $# -eq 2 ] || { echo 'usage: tools/static_library.sh CRATE OUT.a' >&2; exit 2; }
+crate=$1
+case $2 in /*) out=$2 ;; *) out=$PWD/$2 ;; esac
+[ -d "$(dirname "$out")" ] || { echo "static_library.sh: $(dirname "$out"), where $2 is to be written, is not a folder" >&2; exit 2; }
+[ ! -d "$out" ] || { echo "static_library.sh: $2 is a folder" >&2; exit 2; }
 cd "$(dirname "$0")/.."
+[ -f "crates/$crate/src/lib.rt" ] || { echo "static_library.sh: there is no library crate $crate (no crates/$crate/src/lib.rt)" >&2; exit 2; }
+rt=$(command -v rt) || { echo 'static_library.sh: rt, the Rattle kit, is not on the path' >&2; exit 1; }
 
 if [ "$(uname -m)" = aarch64 ]; then
     kit=${RATTLE_HOME:-$(dirname "$(dirname "$(readlink -f "$rt")")")}
@@ -34,6 +36,6 @@ exec "$kit/$clang" "\$@" --target=aarch64-unknown-linux-gnu -march=armv8-a -Wno-
 EOF
     chmod +x "$work/kit/$clang"
 fi
-rt staticlib capi
+rt staticlib "$crate"
 # moved, so that no library of another kind stays where rt writes its own
-mv target/staticlib/libcapi.a "$out"
+mv "target/staticlib/lib$crate.a" "$out"

@@ -2,6 +2,7 @@
 #![deny(unsafe_code)]
 
 mod arguments;
+pub mod kernels;
 #[allow(unsafe_code)]
 mod library;
 mod plain;

@@ -1,5 +1,6 @@
-//! The linked library's five calls, made safe. Nothing checks these declarations against
-//! crates/capi/src/lib.rt: a slice is passed as its pointer and then its length in elements.
+//! The five calls of the two linked libraries, made safe. Nothing checks these declarations against
+//! src/lib.rt of crates capi and capi_words: a slice is passed as its pointer and then its length
+//! in elements.
 
 use crate::{Lent, Machine};
 

@@ -1,11 +1,18 @@
 // The machine's calls for C and Rust, over numbers and slices: a warp is a state of 207 words.
-use isa::Instr;
-use saved::STATE_WORDS;
+use machine::Drove;
+use running::FIXED;
+use running::FIXED_START;
+use running::FLAT;
+use running::MOVING;
+use running::MOVING_START;
+use running::SCALARS;
+use running::STATE_WORDS;
 ghost use mathlib.Core.Path.{_≡_};
+ghost use mathlib.Core.List.{[], _∷_};
+ghost use lib.ListN.{length};
+ghost use Rattle.running.specs.Words.{stateWords};
 ghost use Rattle.saved.specs.Saved.{saving};
-ghost use Rattle.capi.specs.Calls.{called, blankOf, launchCallOf, stepCallOf, runCalled, runCallOf, releaseCallOf, decodeCallOf};
-
-// ---- states
+ghost use Rattle.capi.specs.Calls.{called, blankOf, launchCallOf, stepCallOf, runCalled, runCallOf, releaseCallOf};
 
 // What a refused launch does to a state.
 fn blank(state: &mut [u32])
@@ -14,8 +21,6 @@ fn blank(state: &mut [u32])
     let z = warp::zero_warp();
     saved::save(z, state);
 }
-
-// ---- the calls
 
 #[no_mangle]
 pub extern "C" fn bench_launch(
@@ -29,20 +34,44 @@ pub extern "C" fn bench_launch(
 {
     let read = card::read_card(card);
     let a = read.answer;
-    let code = card::card_number(a);
+    let code = answer::number(a);
     if code != 0 {
         blank(state);
         return code;
     }
     if state.len() != STATE_WORDS {
-        return 1;
+        return answer::SIZE;
     }
     let l = read.launch;
     let left = machine::launch(l, kernel, vector, bytes);
     let b = left.answer;
     let w = left.warp;
     saved::save(w, state);
-    machine::number(b)
+    answer::number(b)
+}
+
+// A run on the state's own words, which are what the inner loop runs on: saving is copying. Words of no warp come back as they were.
+fn run_state(
+    state: &mut [u32],
+    kernel: &[u32],
+    vector: &mut [u32],
+    bytes: &mut [u8],
+    budget: u32,
+) -> Drove
+    requires { ⌜ length (now state) ≡ stateWords ⌝ }
+    ensures { λ r. ⌜ runCalled (called (r .code) (now (state .exit)) (now (vector .exit)) (now (bytes .exit))) (r .steps ∷ []) ≡ runCallOf (now (state .entry)) (now (kernel .entry)) budget (now (vector .entry)) (now (bytes .entry)) (0 ∷ []) ⌝ }
+{
+    let mut x = [0u32; SCALARS];
+    saved::copy(state, 0, &mut x, 0, SCALARS);
+    let mut s = [0u32; FLAT];
+    saved::copy(state, SCALARS, &mut s, 0, FLAT);
+    let mut h = [0u32; MOVING];
+    saved::copy(state, MOVING_START, &mut h, 0, MOVING);
+    let mut g = [0u32; FIXED];
+    saved::copy(state, FIXED_START, &mut g, 0, FIXED);
+    let end = machine::run_words(&mut h, &g, &mut x, &mut s, kernel, vector, bytes, budget);
+    saved::put(&h, &g, &x, &s, state);
+    end
 }
 
 #[no_mangle]
@@ -55,14 +84,10 @@ pub extern "C" fn bench_step(
     ensures { λ r. ⌜ called r (now (state .exit)) (now (vector .exit)) (now (bytes .exit)) ≡ stepCallOf (now (state .entry)) (now (kernel .entry)) (now (vector .entry)) (now (bytes .entry)) ⌝ }
 {
     if state.len() != STATE_WORDS {
-        return 1;
+        return answer::SIZE;
     }
-    let w = saved::handed(state);
-    let left = machine::step(w, kernel, vector, bytes);
-    let a = left.answer;
-    let u = left.warp;
-    saved::save(u, state);
-    machine::number(a)
+    let end = run_state(state, kernel, vector, bytes, 1);
+    end.code
 }
 
 #[no_mangle]
@@ -77,43 +102,31 @@ pub extern "C" fn bench_run(
     ensures { λ r. ⌜ runCalled (called r (now (state .exit)) (now (vector .exit)) (now (bytes .exit))) (now (steps .exit)) ≡ runCallOf (now (state .entry)) (now (kernel .entry)) budget (now (vector .entry)) (now (bytes .entry)) (now (steps .entry)) ⌝ }
 {
     if steps.len() != 1 {
-        return 1;
+        return answer::SIZE;
     }
     if state.len() != STATE_WORDS {
         steps[0] = 0;
-        return 1;
+        return answer::SIZE;
     }
-    let w = saved::handed(state);
-    let left = machine::run(w, kernel, vector, bytes, budget);
-    let a = left.answer;
-    let u = left.warp;
-    steps[0] = left.steps;
-    saved::save(u, state);
-    machine::number(a)
+    let end = run_state(state, kernel, vector, bytes, budget);
+    steps[0] = end.steps;
+    end.code
 }
 
 #[no_mangle]
 pub extern "C" fn bench_release(state: &mut [u32]) -> u32
     ensures { λ r. ⌜ saving r (now (state .exit)) ≡ releaseCallOf (now (state .entry)) ⌝ }
 {
-    if state.len() != STATE_WORDS {
-        return 1;
+    let read = saved::restore(state);
+    let a = read.answer;
+    let code = answer::number(a);
+    if code != 0 {
+        return code;
     }
-    let w = saved::handed(state);
+    let w = read.warp;
     let left = machine::release(w);
-    let a = left.answer;
+    let b = left.answer;
     let u = left.warp;
     saved::save(u, state);
-    machine::number(a)
-}
-
-#[no_mangle]
-pub extern "C" fn bench_decode(word: u32) -> u32
-    ensures { λ r. ⌜ r ≡ decodeCallOf word ⌝ }
-{
-    let i = decoder::decode(word);
-    match i {
-        Instr::Refused => 6,
-        _ => 0,
-    }
+    answer::number(b)
 }

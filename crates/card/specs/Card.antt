@@ -1,14 +1,14 @@
 -- The launch card: how its bytes lie, and what reading and writing it answer.
 use Prim.Native.Nat.{ℕ}
-use mathlib.Core.Bool.{Bool, _&&_, cond}
-use mathlib.Core.List.{List, _∷_}
+use mathlib.Core.Bool.{Bool, not, _&&_, cond}
+use mathlib.Core.List.{List, [], _∷_}
 use lib.Dec.{eqb}
 use lib.ListN.{length, replicate}
+use Rattle.answer.specs.Answer.{numberOf}
+use Rattle.answer.specs.Rows.{Row, _⇒_, first}
 use Rattle.warp.specs.declared.Launch.{Launch}
 use Rattle.warp.specs.Warp.{zeroLaunch}
 use Rattle.warp.specs.WellFormed.{launchOkOf}
-use Rattle.card.specs.declared.Answer.{Answer}
-use Rattle.card.specs.declared.Answer.the-variants.{Done, OutOfRange, Malformed}
 use Rattle.card.specs.declared.ReadCard.{ReadCard}
 use Rattle.card.specs.Layout.{Values, end, _▹_, sizeOf, valuesAt, bytesOf}
 
@@ -73,13 +73,7 @@ launchAt d = launchOf (valuesAt layout d 0)
 unfoldable pub cardOf : Launch → List ℕ
 cardOf l = bytesOf (valuesOf l)
 
--- ---- answers
-
--- the number of each answer
-abbrev pub numberOf : Answer → ℕ
-numberOf Done = 0
-numberOf OutOfRange = 1
-numberOf Malformed = 13
+-- ---- answers: the first test that holds refuses
 
 -- what a reading leaves
 pub record Reading : Type 0 where
@@ -92,12 +86,14 @@ reading n l = record { number = n; launch = l }
 abbrev pub readingOf : ReadCard → Reading
 readingOf r = reading (numberOf (r .answer)) (r .launch)
 
--- any other length, version or total is 13; then a value out of range is 1
+-- any other total, length or version is 13; then a value out of range is 1
+abbrev pub readTests : List ℕ → List (Row Bool)
+readTests d = 13 ⇒ not (eqb (length d) cardSize) ∷ 13 ⇒ not (headOkAt d) ∷ 1 ⇒ not (launchOkOf (launchAt d)) ∷ []
+
 unfoldable pub readCardOf : List ℕ → Reading
 readCardOf d =
-    cond (eqb (length d) cardSize && headOkAt d)
-    (cond (launchOkOf (launchAt d)) (reading 0 (launchAt d)) (reading 1 zeroLaunch))
-    (reading 13 zeroLaunch)
+    let n : ℕ = first (readTests d) in
+    reading n (cond (eqb n 0) (launchAt d) zeroLaunch)
 
 -- what a writing leaves
 pub record Writing : Type 0 where
@@ -107,6 +103,11 @@ pub record Writing : Type 0 where
 abbrev pub writing : ℕ → List ℕ → Writing
 writing n t = record { number = n; target = t }
 
--- a value out of range, or a target that isn't exactly a card's size, is 1
+-- a target that isn't exactly a card's size, or a value out of range, is 1
+abbrev pub writeTests : Launch → List ℕ → List (Row Bool)
+writeTests l t = 1 ⇒ not (eqb (length t) cardSize) ∷ 1 ⇒ not (launchOkOf l) ∷ []
+
 unfoldable pub writeCardOf : Launch → List ℕ → Writing
-writeCardOf l t = cond (eqb (length t) cardSize && launchOkOf l) (writing 0 (cardOf l)) (writing 1 t)
+writeCardOf l t =
+    let n : ℕ = first (writeTests l t) in
+    writing n (cond (eqb n 0) (cardOf l) t)

@@ -23,8 +23,3 @@ valuesAt (w ∷ ws) d i = beAt w d i ▹ valuesAt ws d (i + w)
 abbrev pub bytesOf : {ws : List ℕ} → Values ws → List ℕ
 bytesOf end = []
 bytesOf (_▹_ {w} x xs) = beBytes w x ++ bytesOf xs
-
--- P holds of each width and its value
-abbrev pub Each : (ℕ → ℕ → Type 0) → {ws : List ℕ} → Values ws → Type 0
-Each P end = record {}
-Each P (_▹_ {w} x xs) = P w x × Each P xs

@@ -1,9 +1,4 @@
 pub mod BigEndian
 pub mod Layout
 pub mod Card
-pub mod RoundTrip
-pub mod Cases
 pub mod Puts
-pub mod BigEndianLaws
-pub mod LayoutLaws
-pub mod CardLaws

@@ -1,14 +1,18 @@
 // The launch card, read and written.
+use answer::Answer;
+use answer::Refusal;
 use warp::Fixed;
 use warp::Launch;
 ghost use mathlib.Core.Path.{_≡_};
 ghost use Prim.Native.Nat.{_+_, _<_, _≤_};
 ghost use lib.ListN.{length};
 ghost use lib.Seq.{sets};
+ghost use Rattle.answer.specs.declared.Answer.the-variants.{Refused};
+ghost use Rattle.answer.specs.Answer.{numberOf};
 ghost use Rattle.warp.specs.Warp.{zeroLaunch};
 ghost use Rattle.card.specs.BigEndian.{beAt, beBytes};
 ghost use Rattle.card.specs.Puts.{puts, later};
-ghost use Rattle.card.specs.Card.{valuesOf, cardSize, headOkAt, launchAt, numberOf, readingOf, readCardOf, writing, writeCardOf};
+ghost use Rattle.card.specs.Card.{valuesOf, cardSize, headOkAt, launchAt, readingOf, readCardOf, writing, writeCardOf};
 
 const CARD_SIZE: usize = 50;
 
@@ -16,29 +20,9 @@ const CARD_LENGTH: u32 = 48;
 
 const CARD_VERSION: u32 = 1;
 
-// Numbers 0, 1 and 13.
-pub enum Answer {
-    Done,
-    OutOfRange,
-    Malformed,
-}
-
-// Writing answers Done or OutOfRange.
-pub type Written = Answer;
-
 pub struct ReadCard {
     pub answer: Answer,
     pub launch: Launch,
-}
-
-pub fn card_number(a: Answer) -> u32
-    ensures { λ n. ⌜ n ≡ numberOf a ⌝ }
-{
-    match a {
-        Answer::Done => 0,
-        Answer::OutOfRange => 1,
-        Answer::Malformed => 13,
-    }
 }
 
 fn wide(x: u8) -> u32
@@ -106,12 +90,12 @@ fn launch_at(b: &[u8]) -> Launch
     }
 }
 
-fn refused(a: Answer) -> ReadCard
-    ensures { λ r. ⌜ r ≡ record { answer = a; launch = zeroLaunch } ⌝ }
+fn refused(why: Refusal) -> ReadCard
+    ensures { λ r. ⌜ r ≡ record { answer = Refused why; launch = zeroLaunch } ⌝ }
 {
     let l = warp::zero_launch();
     ReadCard {
-        answer: a,
+        answer: Answer::Refused(why),
         launch: l,
     }
 }
@@ -121,14 +105,14 @@ pub fn read_card(bytes: &[u8]) -> ReadCard
     ensures { λ r. ⌜ readingOf r ≡ readCardOf (now (bytes .entry)) ⌝ }
 {
     if bytes.len() != CARD_SIZE {
-        return refused(Answer::Malformed);
+        return refused(Refusal::BadCard);
     }
     if !head_ok(bytes) {
-        return refused(Answer::Malformed);
+        return refused(Refusal::BadCard);
     }
     let l = launch_at(bytes);
     if !warp::launch_ok(l) {
-        return refused(Answer::OutOfRange);
+        return refused(Refusal::Size);
     }
     ReadCard {
         answer: Answer::Done,
@@ -194,16 +178,16 @@ fn put_later(l: Launch, t: &mut [u8])
 }
 
 // The launch written as a card; nothing is written where it is refused.
-pub fn write_card(l: Launch, target: &mut [u8]) -> Written
+pub fn write_card(l: Launch, target: &mut [u8]) -> Answer
     ensures { λ r. ⌜ writing (numberOf r) (now (target .exit)) ≡ writeCardOf l (now (target .entry)) ⌝ }
 {
     if target.len() != CARD_SIZE {
-        return Written::OutOfRange;
+        return Answer::Refused(Refusal::Size);
     }
     if !warp::launch_ok(l) {
-        return Written::OutOfRange;
+        return Answer::Refused(Refusal::Size);
     }
     put_first(l, target);
     put_later(l, target);
-    Written::Done
+    Answer::Done
 }

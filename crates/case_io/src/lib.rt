@@ -6,7 +6,14 @@ ghost use mathlib.Core.Path.{_≡_};
 ghost use lib.ListN.{length};
 ghost use Rattle.io.specs.Counts.{Counts};
 
-const STATE_WORDS: usize = 207;
+// The words of a saved state, and where the open splits, the PC and the mask stand among them.
+pub const STATE_WORDS: usize = 207;
+
+const OPEN_AT: usize = 187;
+
+const PC_AT: usize = 188;
+
+const MASK_AT: usize = 189;
 
 // Where a digest starts.
 pub const DIGEST: u32 = 2166136261;
@@ -310,9 +317,9 @@ pub fn put_state_line(number: u32, code: u32, steps: u32, state: &[u32], last: u
             number,
             code,
             steps,
-            state[188],
-            state[189],
-            state[187],
+            state[PC_AT],
+            state[MASK_AT],
+            state[OPEN_AT],
             last,
         );
     } else {

@@ -1,4 +1,5 @@
 // Runs the machine on the stored cases and writes a line for each. reference/CASES-FORMAT.md says what a case file holds and what a line says.
+use case_io::STATE_WORDS;
 use warp::Launch;
 
 // The kinds of case, by their numbers 1 to 7.
@@ -93,7 +94,7 @@ fn run_case(file: i32, number: u32, kind: Kind, card: &[u8], state: &mut [u32]) 
 fn launch_case(file: i32, number: u32, kind: Kind) {
     let mut card = [0u8; 100];
     let c = case_io::read_card(file, &mut card);
-    let mut state = [0u32; 207];
+    let mut state = [0u32; STATE_WORDS];
     run_case(file, number, kind, &card[..c], &mut state);
 }
 
@@ -129,7 +130,7 @@ fn read_card_case(file: i32, number: u32) {
     let digest = case_io::mixed_words(case_io::DIGEST, &words);
     case_io::put_line(
         number,
-        card::card_number(a),
+        answer::number(a),
         0,
         l.entry,
         f.launchmask,
@@ -151,7 +152,7 @@ fn release_case(file: i32, number: u32) {
 }
 
 fn write_lent(number: u32, l: Launch, target: &mut [u8]) {
-    let code = card::card_number(card::write_card(l, target));
+    let code = answer::number(card::write_card(l, target));
     case_io::put_line(
         number,
         code,

@@ -4,6 +4,7 @@ use isa::CsrOp;
 use isa::Instr;
 use isa::LoadOp;
 use isa::Source;
+use isa::Space;
 use isa::StoreOp;
 use word::Cond;
 use word::Op;
@@ -105,6 +106,13 @@ fn source_form(s: Source) -> u32 {
     }
 }
 
+fn space_letter(s: Space) -> u8 {
+    match s {
+        Space::Plain => b'v',
+        Space::Private => b'p',
+    }
+}
+
 fn line(k: u8, l: u8, op: u8, a: u8, b: u8, c: u8, imm: u32) -> Parts {
     Parts {
         kind: [k, l],
@@ -123,10 +131,24 @@ fn ventus(i: Instr) -> Parts {
         Instr::SetRpc(d, a, n) => line(b'r', b'p', 0, d.0, a.0, 0, n as u32),
         Instr::EndPrg => line(b'e', b'p', 0, 0, 0, 0, 0),
         Instr::Barrier(n) => line(b'b', b'a', 0, 0, n, 0, 0),
-        Instr::VLoad(o, d, a, n) => line(b'v', b'l', load_number(o), d.0, a.0, 0, n as u32),
-        Instr::VStore(o, a, b, n) => line(b'v', b's', store_number(o), 0, a.0, b.0, n as u32),
-        Instr::PLoad(o, d, a, n) => line(b'p', b'l', load_number(o), d.0, a.0, 0, n as u32),
-        Instr::PStore(o, a, b, n) => line(b'p', b's', store_number(o), 0, a.0, b.0, n as u32),
+        Instr::VLoad(s, o, d, a, n) => line(
+            space_letter(s),
+            b'l',
+            load_number(o),
+            d.0,
+            a.0,
+            0,
+            n as u32,
+        ),
+        Instr::VStore(s, o, a, b, n) => line(
+            space_letter(s),
+            b's',
+            store_number(o),
+            0,
+            a.0,
+            b.0,
+            n as u32,
+        ),
         _ => line(b'-', b'-', 0, 0, 0, 0, 0),
     }
 }
@@ -227,7 +249,7 @@ fn next() -> bool {
     let mut b = [0u8; 4];
     let got = io::read_full(libc::STDIN_FILENO, &mut b);
     if got == 4 {
-        print(shown(decoder::decode(joined(b[0], b[1], b[2], b[3]))));
+        print(shown(instruction::decode(joined(b[0], b[1], b[2], b[3]))));
         true
     } else {
         false

@@ -1,5 +1,8 @@
+pub mod Calls
+pub mod Computes
 pub mod Immediate
+pub mod Inside
 pub mod Sizes
 pub mod Sound
-pub mod Steps
+pub mod Target
 pub mod Tests

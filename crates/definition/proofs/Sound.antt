@@ -1,187 +1,144 @@
--- What every instruction keeps: the warp well formed, the sizes of the lent runs, and, where it is refused, everything.
-use Prim.Native.Nat.{ℕ, _-_, _%_, _≤_}
-use mathlib.Core.Path.{_≡_, refl, ap, _∙_}
-use mathlib.Core.Bool.{Bool, true, false, not, _&&_, _||_, cond}
-use mathlib.Core.List.{List}
+-- What every instruction keeps where none of its tests holds: the warp well formed. (That the lists keep their lengths is the law `within`.)
+use Prim.Native.Nat.{ℕ, _%_}
+use mathlib.Core.Path.{_≡_, refl}
+use mathlib.Core.Bool.{Bool, true, false, not, _&&_, cond}
+use mathlib.Core.List.{List, [], _∷_}
 use native.Mathlib.Omega.{arith}
 use lib.Bits.{bitAnd}
-use lib.Dec.{eqb, lit≤}
+use lib.Dec.{eqb}
 use lib.ListN.{length}
-use lib.Seq.{length-sets}
-use borrow.Author.Tests.{eqb-true, eqb-false}
+use borrow.Author.Tests.{eqb-true, eqb-false, eq-eqb}
+use Rattle.answer.specs.Rows.{Row, _⇒_, first}
+use Rattle.answer.proofs.Rows.{passed}
+use Rattle.word.specs.Word.{holdsOf}
 use Rattle.isa.specs.declared.Instr.{Instr}
 use Rattle.isa.specs.declared.Instr.the-variants as I
-use Rattle.isa.specs.declared.LoadOp.{LoadOp}
-use Rattle.isa.specs.declared.StoreOp.{StoreOp}
-use Rattle.isa.specs.declared.XReg.{XReg}
-use Rattle.isa.specs.declared.VReg.{VReg}
 use Rattle.isa.specs.declared.CsrOp.{CsrOp}
-use Rattle.word.specs.Word.{holdsOf}
-use Rattle.lanes.specs.Mask.{bit}
-use Rattle.lanes.specs.Lanes.{laneOf, uniformOf}
-use Rattle.lanes.specs.Laws.{write-length, each-keeps}
+use Rattle.isa.specs.declared.XReg.{XReg}
 use Rattle.lanes.specs.MaskLaws.{part-in}
-use Rattle.memory.specs.Memory.{insideOf, sizeOf, widthOf}
-use Rattle.memory.specs.LaneAccess.{allInside}
-use Rattle.memory.specs.Bytes.{leBytes}
 use Rattle.warp.specs.declared.Warp.{Warp}
-use Rattle.warp.specs.Warp.{aligned, readX, writeX, next, nextPc, Answer, answer, reachOf, jumpOf, linkOf}
-use Rattle.warp.specs.Splits.{vbranchOf, setRpcOf}
+use Rattle.warp.specs.Warp.{splitCount, aligned, withPc, writeX, next, nextPc, linked, branched}
+use Rattle.warp.specs.WellFormed.{wellFormedOf}
+use Rattle.warp.specs.Splits.{openOf, parted, setRpcOf}
 use Rattle.warp.specs.SplitLaws.{by-cond}
-use Rattle.warp.specs.Csr.{isCsr, isPrint, isRpc, writesOf, csrAt, csrOf}
+use Rattle.warp.specs.Csr.{isPrint, writesOf, csrAt, csrDone}
 use Rattle.warp.specs.Moves.{Cuts, Moves, opens, joins, leaves}
-use Rattle.warp.specs.Formed.{Formed, mask-small, formed-pc, formed-next, formed-x, formed-stop, formed-print, formed-rpc, formed-setrpc, formed-open, formed-join}
-use Rattle.definition.specs.Outcome.{Outcome, outcome, Effect, goes, writes, saves, effect}
-use Rattle.definition.specs.Exec.{effectOf, execOf, puts, stores, laneLoads, laneStores, stops}
+use Rattle.warp.specs.Formed.{Formed, formed, well, mask-small, formed-pc, formed-next, formed-x, formed-stop, formed-print, formed-rpc, formed-setrpc, formed-open, formed-join}
+use Rattle.definition.specs.State.{State, fixedOf, xOf, instrAt}
+use Rattle.definition.specs.Refuse.{runsOkOf, onKernel, astray, refusalsOf}
+use Rattle.definition.specs.Exec.{effect, effectOf}
+use Rattle.definition.specs.Step.{stepOf}
 
--- the outcome o of a word at the warp w, the vector file v and the data d
-pub record Sound (w : Warp) (v d : List ℕ) (o : Outcome) : Type 0 where
-  pub formed : Formed (o .warp)
-  pub moves : o .code ≡ 0 → Moves w (o .warp)
-  pub keeps : (o .code ≡ 0 → ⊥) → o ≡ outcome (o .code) w v d
-  pub known : o .code ≤ 11
-  pub vector : length (o .vector) ≡ length v
-  pub bytes : length (o .bytes) ≡ length d
-
--- what a word that touches the warp alone answers
-record Good-answer (w : Warp) (a : Answer) : Type 0 where
-  formed : Formed (a .warp)
-  moves : a .code ≡ 0 → Moves w (a .warp)
-  keeps : (a .code ≡ 0 → ⊥) → a .warp ≡ w
-  known : a .code ≤ 11
-
--- the splits and the mask are as they were
-same : (w u : Warp) → u .splits ≡ w .splits → u .depth ≡ w .depth → u .mask ≡ w .mask → u .fixed ≡ w .fixed → Moves w u
-same w u s d m f = leaves (record { splits = s; depth = d; mask = m; fixed = f })
+-- from the warp w to the warp u
+pub record Sound (w u : Warp) : Type 0 where
+  pub formed : Formed u
+  pub moves : Moves w u
 
 module _ (w : Warp) (f : Formed w) where
-  passes : (u : Warp) → Formed u → Moves w u → Good-answer w (answer 0 u)
-  passes u g m = record { formed = g; moves = λ z. m; keeps = λ n. absurd (n refl); known = lit≤ tt }
+  -- the splits and the mask are as they were
+  plain : (u : Warp) → Formed u → u .splits ≡ w .splits → u .depth ≡ w .depth → u .mask ≡ w .mask → u .fixed ≡ w .fixed → Sound w u
+  plain u g s d m x = record { formed = g; moves = leaves (record { splits = s; depth = d; mask = m; fixed = x }) }
 
-  stays : (n : ℕ) → (n ≡ 0 → ⊥) → n ≤ 11 → Good-answer w (answer n w)
-  stays n z k = record { formed = f; moves = λ e. absurd (z e); keeps = λ e. refl; known = k }
+  on : Sound w (next w)
+  on = plain _ (formed-next w f) refl refl refl refl
 
-  either : (t : Bool) (a b : Answer) → (t ≡ true → Good-answer w a) → (t ≡ false → Good-answer w b) → Good-answer w (cond t a b)
-  either t a b p q = by-cond (Good-answer w) t a b p q
+  put : (r : XReg) (y : ℕ) → Sound w (next (writeX r y w))
+  put r y = plain _ (formed-next _ (formed-x w f r y)) refl refl refl refl
 
-  on : Good-answer w (answer 0 (next w))
-  on = passes (next w) (formed-next w f) (same w _ refl refl refl refl)
+  link : (r : XReg) (p : ℕ) → first (8 ⇒ astray p ∷ []) ≡ 0 → Sound w (linked r p w)
+  link r p h = plain _ (formed-pc _ (formed-x w f r (nextPc w)) p (eqb-true _ _ (passed [] [] 8 (aligned p) refl h))) refl refl refl refl
 
-  put : (r : XReg) (y : ℕ) → Good-answer w (puts r y w)
-  put r y = passes _ (formed-next _ (formed-x w f r y)) (same w _ refl refl refl refl)
+  branch : (t : Bool) (p : ℕ) → first (8 ⇒ (t && astray p) ∷ []) ≡ 0 → Sound w (branched t p w)
+  branch true p h = plain _ (formed-pc w f p (eqb-true _ _ (passed [] [] 8 (aligned p) refl h))) refl refl refl refl
+  branch false p h = on
 
-  nine : Good-answer w (answer 9 w)
-  nine = stays 9 (λ e. omega arith) (lit≤ tt)
+  csr : (o : CsrOp) (n : ℕ) (rd : XReg) (rs1 y : ℕ) → Sound w (csrDone o n rd rs1 y w)
+  unfolding csrDone
+  csr o n rd rs1 y =
+      by-cond (λ u. Sound w (next (writeX rd (csrAt n w) u))) (writesOf o rs1) _ _
+      (λ e. by-cond (λ u. Sound w (next (writeX rd (csrAt n w) u))) (isPrint n) _ _
+      (λ p. plain _ (formed-next _ (formed-x _ (formed-print w f _) rd _)) refl refl refl refl)
+      (λ p. plain _ (formed-next _ (formed-x _ (formed-rpc w f _) rd _)) refl refl refl refl))
+      (λ e. put rd _)
 
-  reach : (p : ℕ) (u : Warp) → (p % 4 ≡ 0 → Formed u) → (p % 4 ≡ 0 → Moves w u) → Good-answer w (reachOf p u w)
-  unfolding reachOf
-  reach p u g m = either (aligned p) _ _ (λ a. passes u (g (eqb-true _ _ a)) (m (eqb-true _ _ a))) (λ a. stays 8 (λ e. omega arith) (lit≤ tt))
-
-  jump : (p : ℕ) → Good-answer w (jumpOf p w)
-  jump p = reach p _ (λ a. formed-pc w f p a) (λ a. same w _ refl refl refl refl)
-
-  link : (r : XReg) (p : ℕ) → Good-answer w (linkOf r p w)
-  link r p = reach p _ (λ a. formed-pc _ (formed-x w f r (nextPc w)) p a) (λ a. same w _ refl refl refl refl)
-
-  stop : (u : Warp) → (w .depth ≡ 0 → Formed u) → Moves w u → Good-answer w (stops u w)
-  stop u g m = either (eqb (w .depth) 0) _ _ (λ z. passes u (g (eqb-true _ _ z)) m) (λ z. stays 11 (λ e. omega arith) (lit≤ tt))
-
-  setrpc : (r a : XReg) (n : ℕ) → Good-answer w (answer 0 (setRpcOf r a n w))
+  setrpc : (r a : XReg) (n : ℕ) → Sound w (setRpcOf r a n w)
   unfolding setRpcOf
-  setrpc r a n = passes _ (formed-setrpc r a n w f) (same w _ refl refl refl refl)
-
-  csr : (op : CsrOp) (n : ℕ) (rd : XReg) (rs1 y : ℕ) → Good-answer w (csrOf op n rd rs1 y w)
-  unfolding csrOf
-  csr op n rd rs1 y =
-      either (isCsr n && (not (writesOf op rs1) || (isPrint n || isRpc n))) _ _
-      (λ t. passes _ (formed-next _ (formed-x _ (by-cond Formed (writesOf op rs1) _ _ (λ e. by-cond Formed (isPrint n) _ _ (λ p. formed-print w f _) (λ p. formed-rpc w f _)) (λ e. f)) rd _))
-      (by-cond (λ u. Moves w (next (writeX rd (csrAt n w) u))) (writesOf op rs1) _ _
-      (λ e. by-cond (λ u. Moves w (next (writeX rd (csrAt n w) u))) (isPrint n) _ _ (λ p. same w _ refl refl refl refl) (λ p. same w _ refl refl refl refl))
-      (λ e. same w _ refl refl refl refl)))
-      (λ t. stays 7 (λ e. omega arith) (lit≤ tt))
+  setrpc r a n = plain _ (formed-setrpc r a n w f) refl refl refl refl
 
 module _ (w : Warp) (f : Formed w) (en : w .ended ≡ false) (wa : w .waiting ≡ false) where
-  vbranch : (e p : ℕ) → bitAnd e (w .mask) ≡ e → Good-answer w (vbranchOf e p w)
-  unfolding vbranchOf
-  vbranch e p i =
-      either w f (eqb e 0) _ _ (λ z. on w f)
-      (λ z. reach w f p _
-      (λ a. by-cond Formed (eqb e (w .mask)) _ _ (λ m. formed-pc w f p a) (λ m. formed-open w f en wa e p (cut z m a)))
-      (λ a. by-cond (Moves w) (eqb e (w .mask)) _ _ (λ m. same w _ refl refl refl refl) (λ m. opens e p (cut z m a) refl)))
+  vbranch : (e p : ℕ) → bitAnd e (w .mask) ≡ e → first (8 ⇒ (not (eqb e 0) && astray p) ∷ []) ≡ 0 → Sound w (parted e p w)
+  unfolding parted
+  vbranch e p i h = by-cond (Sound w) (eqb e 0) _ _ (λ z. on w f) (λ z. some z (eqb-true _ _ (passed [] [] 8 (aligned p) refl (rw z at h))))
     where
-      cut : eqb e 0 ≡ false → eqb e (w .mask) ≡ false → p % 4 ≡ 0 → Cuts e p w
-      cut z m a = record { within = i; some = eqb-false _ _ z; strict = eqb-false _ _ m; aligned = a }
+      some : eqb e 0 ≡ false → p % 4 ≡ 0 → Sound w (cond (eqb e (w .mask)) (withPc p w) (openOf e p w))
+      some z a =
+          by-cond (Sound w) (eqb e (w .mask)) _ _ (λ m. plain w f _ (formed-pc w f p a) refl refl refl refl)
+          (λ m. let c : Cuts e p w = record { within = i; some = eqb-false _ _ z; strict = eqb-false _ _ m; aligned = a } in
+          record { formed = formed-open w f en wa e p c; moves = opens e p c refl })
 
-module _ (w : Warp) (f : Formed w) (en : w .ended ≡ false) (wa : w .waiting ≡ false) (v d : List ℕ) where
-  abbrev S : Effect → Type 0
-  S e = Sound w v d (effect e w v d)
+module _ (m : State) (f : Formed (m .warp)) (en : m .warp .ended ≡ false) (wa : m .warp .waiting ≡ false) where
+  abbrev W : Warp
+  W = m .warp
 
-  sound-goes : (a : Answer) → Good-answer w a → S (goes a)
-  sound-goes a k =
-      record { formed = k .formed; moves = k .moves; keeps = λ n. ap (λ (u : Warp). outcome (a .code) u v d) (k .keeps n); known = k .known; vector = refl; bytes = refl }
+  pub sound : (i : Instr) → first (refusalsOf i m) ≡ 0 → Sound (m .warp) (effect (effectOf i m) m .warp)
+  unfolding effectOf refusalsOf
+  sound I.Refused h = absurd (omega arith)
+  sound (I.Lui r n) h = put W f r _
+  sound (I.Auipc r n) h = put W f r _
+  sound (I.Jal r n) h = link W f r _ h
+  sound (I.Jalr r a n) h = link W f r _ h
+  sound (I.Branch c a b n) h = branch W f (holdsOf c (xOf a m) (xOf b m)) _ h
+  sound (I.Load k r a n) h = put W f r _
+  sound (I.Store k a b n) h = on W f
+  sound (I.OpImm o r a n) h = put W f r _
+  sound (I.OpReg o r a b) h = put W f r _
+  sound (I.Fence r a n) h = on W f
+  sound (I.Csr o r a n) h = csr W f o n r (a .0) _
+  sound (I.CsrImm o r i n) h = csr W f o n r i i
+  sound (I.Vector o a) h = on W f
+  sound (I.VMove r s) h = on W f
+  sound (I.VMoveXS r b) h = put W f r _
+  sound (I.VMoveSX r a) h = on W f
+  sound (I.Vid r) h = on W f
+  sound (I.VBranch c a b n) h = vbranch W f en wa _ _ (part-in (W .mask) (fixedOf m .numt) _ (mask-small W f)) h
+  sound I.Join h = record { formed = formed-join W f en wa; moves = joins refl }
+  sound (I.SetRpc r a n) h = setrpc W f r a n
+  sound I.EndPrg h = plain W f _ (formed-stop W f true false refl (eqb-true _ _ (passed [] [] 11 (eqb (W .depth) 0) refl h))) refl refl refl refl
+  sound (I.Barrier n) h = plain W f _ (formed-next _ (formed-stop W f false true refl (eqb-true _ _ (passed [] [] 11 (eqb (W .depth) 0) refl h)))) refl refl refl refl
+  sound (I.VLoad s k r a n) h = on W f
+  sound (I.VStore s k a b n) h = on W f
 
-  sound-writes : (r : VReg) (g : ℕ → ℕ) → S (writes r g)
-  sound-writes r g =
-      record {
-        formed = formed-next w f;
-        moves = λ z. same w _ refl refl refl refl;
-        keeps = λ n. absurd (n refl);
-        known = lit≤ tt;
-        vector = write-length (bit (w .mask)) r g v (w .fixed .numt);
-        bytes = refl;
-      }
+-- none of the five tests holds, nor any row after them
+pub record Clear (a b c d e : Bool) (rs : List (Row Bool)) : Type 0 where
+  pub runs : a ≡ true
+  pub formed : b ≡ true
+  pub ended : c ≡ false
+  pub waiting : d ≡ false
+  pub on : e ≡ true
+  pub rest : first rs ≡ 0
 
-  sound-saves : (e : List ℕ) → length e ≡ length d → S (saves e)
-  sound-saves e l =
-      record { formed = formed-next w f; moves = λ z. same w _ refl refl refl refl; keeps = λ n. absurd (n refl); known = lit≤ tt; vector = refl; bytes = l }
+clear : (a b c d e : Bool) (rs : List (Row Bool)) → first (1 ⇒ not a ∷ 2 ⇒ not b ∷ 3 ⇒ c ∷ 4 ⇒ d ∷ 5 ⇒ not e ∷ rs) ≡ 0 → Clear a b c d e rs
+clear false b c d e rs h = absurd (omega arith)
+clear true false c d e rs h = absurd (omega arith)
+clear true true true d e rs h = absurd (omega arith)
+clear true true false true e rs h = absurd (omega arith)
+clear true true false false false rs h = absurd (omega arith)
+clear true true false false true rs h = record { runs = refl; formed = refl; ended = refl; waiting = refl; on = refl; rest = h }
 
-  -- inside, or 9
-  accessed : (t : Bool) (e : Effect) → S e → S (cond t e (goes (answer 9 w)))
-  accessed t e s = by-cond S t e _ (λ x. s) (λ x. sound-goes _ (nine w f))
+module _ (k : List ℕ) (m : State) (z : stepOf k m .code ≡ 0) where
+  pub step-clear : Clear (runsOkOf (fixedOf m) k (m .vector) (m .bytes)) (wellFormedOf (m .warp)) (m .warp .ended) (m .warp .waiting) (onKernel k (m .warp)) (refusalsOf (instrAt k m) m)
+  unfolding stepOf
+  step-clear = clear _ _ _ _ _ (refusalsOf (instrAt k m) m) z
 
-  sound-stores : (k : StoreOp) (a y : ℕ) → S (stores k a y d w)
-  sound-stores k a y = accessed (insideOf (w .fixed .database) (length d) (widthOf k) a) _ (sound-saves _ (length-sets d (a - w .fixed .database) (leBytes (widthOf k) y)))
+  pub step-taken : stepOf k m .left ≡ effect (effectOf (instrAt k m) m) m
+  unfolding stepOf
+  step-taken = rw (eq-eqb _ _ z)
 
-  sound-lane-loads : (k : LoadOp) (r : VReg) (at : ℕ → ℕ) → S (laneLoads k r at d w)
-  sound-lane-loads k r at = accessed (allInside (w .fixed .numt) (bit (w .mask)) (w .fixed .database) (length d) (sizeOf k) at) _ (sound-writes r _)
+  -- A taken step moves the splits as the three kinds of move do, and keeps the warp well formed.
+  pub step-sound : length (m .warp .splits) ≡ splitCount → Sound (m .warp) (stepOf k m .left .warp)
+  step-sound n =
+      let c = step-clear in
+      rw step-taken (sound m (formed (m .warp) n (c .formed)) (c .ended) (c .waiting) (instrAt k m) (c .rest))
 
-  sound-lane-stores : (k : StoreOp) (r : VReg) (at : ℕ → ℕ) → S (laneStores k r at v d w)
-  sound-lane-stores k r at =
-      accessed (allInside (w .fixed .numt) (bit (w .mask)) (w .fixed .database) (length d) (widthOf k) at) _
-      (sound-saves _ (each-keeps (bit (w .mask)) _ d (λ u. length u ≡ length d) refl (w .fixed .numt)
-      (λ l u h t e. length-sets u (at l - w .fixed .database) (leBytes (widthOf k) (laneOf v r l)) ∙ e)))
-
-  sound : (i : Instr) → S (effectOf i w v d)
-  unfolding effectOf
-  sound I.Refused = sound-goes _ (stays w f 6 (λ e. omega arith) (lit≤ tt))
-  sound (I.Lui r n) = sound-goes _ (put w f r _)
-  sound (I.Auipc r n) = sound-goes _ (put w f r _)
-  sound (I.Jal r n) = sound-goes _ (link w f r _)
-  sound (I.Jalr r a n) = sound-goes _ (link w f r _)
-  sound (I.Branch c a b n) = sound-goes _ (either w f (holdsOf c (readX a w) (readX b w)) _ _ (λ t. jump w f _) (λ t. on w f))
-  sound (I.Load k r a n) = sound-goes _ (either w f (insideOf (w .fixed .database) (length d) (sizeOf k) _) _ _ (λ t. put w f r _) (λ t. nine w f))
-  sound (I.Store k a b n) = sound-stores k _ _
-  sound (I.OpImm o r a n) = sound-goes _ (put w f r _)
-  sound (I.OpReg o r a b) = sound-goes _ (put w f r _)
-  sound (I.Fence r a n) = sound-goes _ (on w f)
-  sound (I.Csr o r a n) = sound-goes _ (csr w f o n r (a .0) _)
-  sound (I.CsrImm o r i n) = sound-goes _ (csr w f o n r i i)
-  sound (I.Vector o a) = sound-writes (a .vd) _
-  sound (I.VMove r s) = sound-writes r _
-  sound (I.VMoveXS r b) =
-      sound-goes _ (either w f (uniformOf (w .fixed .numt) (bit (w .mask)) _) _ _ (λ t. put w f r _) (λ t. stays w f 10 (λ e. omega arith) (lit≤ tt)))
-  sound (I.VMoveSX r a) = sound-writes r _
-  sound (I.Vid r) = sound-writes r _
-  sound (I.VBranch c a b n) = sound-goes _ (vbranch w f en wa _ _ (part-in (w .mask) (w .fixed .numt) _ (mask-small w f)))
-  sound I.Join = sound-goes _ (passes w f _ (formed-join w f en wa) (joins refl))
-  sound (I.SetRpc r a n) = sound-goes _ (setrpc w f r a n)
-  sound I.EndPrg = sound-goes _ (stop w f _ (λ z. formed-stop w f true false refl z) (same w _ refl refl refl refl))
-  sound (I.Barrier n) = sound-goes _ (stop w f _ (λ z. formed-next _ (formed-stop w f false true refl z)) (same w _ refl refl refl refl))
-  sound (I.VLoad k r a n) = sound-lane-loads k r _
-  sound (I.VStore k a b n) = sound-lane-stores k b _
-  sound (I.PLoad k r a n) = sound-lane-loads k r _
-  sound (I.PStore k a b n) = sound-lane-stores k b _
-
-  pub sound-exec : (i : Instr) → Sound w v d (execOf i w v d)
-  unfolding execOf
-  sound-exec i = sound i
+  pub step-formed : length (m .warp .splits) ≡ splitCount → wellFormedOf (stepOf k m .left .warp) ≡ true
+  step-formed n = well _ (step-sound n .formed)

@@ -1,41 +1,196 @@
--- A step, test by test.
-use Prim.Native.Nat.{ℕ, _-_}
-use mathlib.Core.Path.{_≡_}
-use mathlib.Core.Bool.{true, false}
-use mathlib.Core.List.{List}
-use lib.ListN.{length, getD}
+-- The refusal table of a step: which row answers, what a refusal leaves, and a step test by test.
+use Prim.Native.Nat.{ℕ, _≤_, _<_}
+use mathlib.Core.Path.{_≡_, refl, sym, subst}
+use mathlib.Core.Bool.{Bool, true, false, not, true≢false}
+use mathlib.Core.List.{List, [], _∷_, _++_}
+use native.Mathlib.Omega.{arith}
+use lib.Dec.{lit≤}
+use lib.ListN.{take}
+use borrow.Author.Tests.{ne-eqb}
+use Rattle.answer.specs.Rows.{Row, _⇒_, first, Iff}
+use Rattle.answer.proofs.Rows.{silent, without, numbered, row-answers, numbered-le, numbered-without}
+use Rattle.isa.specs.declared.Instr.{Instr}
+use Rattle.isa.specs.declared.Instr.the-variants as I
 use Rattle.isa.specs.Decode.{decodeOf}
-use Rattle.warp.specs.declared.Warp.{Warp}
 use Rattle.warp.specs.WellFormed.{wellFormedOf}
-use Rattle.definition.specs.Outcome.{outcome}
-use Rattle.definition.specs.Exec.{execOf}
-use Rattle.definition.specs.Step.{runsOkOf, placeOf, onKernel, stepOf}
+use Rattle.definition.specs.State.{State, outcome, fixedOf, instrAt}
+use Rattle.definition.specs.Refuse.{runsOkOf, onKernel, refusalsOf, stepTests, testsOf, lastOfStep}
+use Rattle.definition.specs.Exec.{effect, effectOf}
+use Rattle.definition.specs.Step.{stepOf, execOf, fetchOf}
 
-module _ (k : List ℕ) (w : Warp) (v d : List ℕ) where
-  pub step-runs : runsOkOf (w .fixed) (length k) (length v) (length d) ≡ false → stepOf k w v d ≡ outcome 1 w v d
+-- The answer of a step is the number of the first row that holds, 0 where none does.
+pub step-table : (k : List ℕ) (m : State) → stepOf k m .code ≡ first (testsOf k m)
+unfolding stepOf
+step-table k m = refl
+
+-- A refused step leaves all as it was handed in.
+pub step-keeps : (k : List ℕ) (m : State) → (stepOf k m .code ≡ 0 → ⊥) → stepOf k m ≡ outcome (stepOf k m .code) m
+unfolding stepOf
+step-keeps k m n = rw (ne-eqb _ _ n)
+
+-- ---- the numbers
+
+-- an instruction's rows have the numbers 6 to the last
+pub rows-numbered : (i : Instr) (m : State) → numbered 6 lastOfStep (refusalsOf i m) ≡ true
+unfolding refusalsOf
+rows-numbered I.Refused m = refl
+rows-numbered (I.Lui r n) m = refl
+rows-numbered (I.Auipc r n) m = refl
+rows-numbered (I.Jal r n) m = refl
+rows-numbered (I.Jalr r a n) m = refl
+rows-numbered (I.Branch c a b n) m = refl
+rows-numbered (I.Load k r a n) m = refl
+rows-numbered (I.Store k a b n) m = refl
+rows-numbered (I.OpImm o r a n) m = refl
+rows-numbered (I.OpReg o r a b) m = refl
+rows-numbered (I.Fence r a n) m = refl
+rows-numbered (I.Csr o r a n) m = refl
+rows-numbered (I.CsrImm o r i n) m = refl
+rows-numbered (I.Vector o a) m = refl
+rows-numbered (I.VMove r s) m = refl
+rows-numbered (I.VMoveXS r b) m = refl
+rows-numbered (I.VMoveSX r a) m = refl
+rows-numbered (I.Vid r) m = refl
+rows-numbered (I.VBranch c a b n) m = refl
+rows-numbered I.Join m = refl
+rows-numbered (I.SetRpc r a n) m = refl
+rows-numbered I.EndPrg m = refl
+rows-numbered (I.Barrier n) m = refl
+rows-numbered (I.VLoad s k r a n) m = refl
+rows-numbered (I.VStore s k a b n) m = refl
+
+tests-le : (a b c d e : Bool) (rs : List (Row Bool)) → first rs ≤ lastOfStep → first (1 ⇒ not a ∷ 2 ⇒ not b ∷ 3 ⇒ c ∷ 4 ⇒ d ∷ 5 ⇒ not e ∷ rs) ≤ lastOfStep
+tests-le false b c d e rs h = lit≤ tt
+tests-le true false c d e rs h = lit≤ tt
+tests-le true true true d e rs h = lit≤ tt
+tests-le true true false true e rs h = lit≤ tt
+tests-le true true false false false rs h = lit≤ tt
+tests-le true true false false true rs h = h
+
+-- A step's answer is at most the last of its rows' numbers.
+pub step-known : (k : List ℕ) (m : State) → stepOf k m .code ≤ lastOfStep
+unfolding stepOf
+step-known k m =
+    tests-le (runsOkOf (fixedOf m) k (m .vector) (m .bytes)) (wellFormedOf (m .warp)) (m .warp .ended) (m .warp .waiting) (onKernel k (m .warp))
+    (refusalsOf (instrAt k m) m) (numbered-le 6 lastOfStep (refusalsOf (instrAt k m) m) (rows-numbered (instrAt k m) m))
+
+-- ---- 'when, and only when', row by row
+
+-- wherever a step's table is parted
+pub step-row : (k : List ℕ) (m : State) (rs us : List (Row Bool)) (n : ℕ) (t : Bool) → testsOf k m ≡ rs ++ (n ⇒ t ∷ us) → (n ≡ 0 → ⊥) → without n rs ≡ true → without n us ≡ true
+    → Iff (stepOf k m .code ≡ n) ((silent rs ≡ true) × (t ≡ true))
+unfolding stepOf
+step-row k m rs us n t e z a b = subst (λ (l : List (Row Bool)). Iff (first l ≡ n) ((silent rs ≡ true) × (t ≡ true))) (sym e) (row-answers rs us n t z a b)
+
+late : (a b c d e : Bool) (rs : List (Row Bool)) (n : ℕ) → 6 ≤ n
+    → Iff (first (1 ⇒ not a ∷ 2 ⇒ not b ∷ 3 ⇒ c ∷ 4 ⇒ d ∷ 5 ⇒ not e ∷ rs) ≡ n) ((silent (1 ⇒ not a ∷ 2 ⇒ not b ∷ 3 ⇒ c ∷ 4 ⇒ d ∷ 5 ⇒ not e ∷ []) ≡ true) × (first rs ≡ n))
+late false b c d e rs n h = (λ p. absurd (omega arith), λ p. absurd (true≢false (sym (p .0))))
+late true false c d e rs n h = (λ p. absurd (omega arith), λ p. absurd (true≢false (sym (p .0))))
+late true true true d e rs n h = (λ p. absurd (omega arith), λ p. absurd (true≢false (sym (p .0))))
+late true true false true e rs n h = (λ p. absurd (omega arith), λ p. absurd (true≢false (sym (p .0))))
+late true true false false false rs n h = (λ p. absurd (omega arith), λ p. absurd (true≢false (sym (p .0))))
+late true true false false true rs n h = (λ p. (refl, p), λ p. p .1)
+
+module _ (k : List ℕ) (m : State) where
+  abbrev own : List (Row Bool)
+  own = refusalsOf (instrAt k m) m
+
+  below : (n : ℕ) → n < 6 → without n own ≡ true
+  below n h = numbered-without n 6 lastOfStep own h (rows-numbered (instrAt k m) m)
+
+  abbrev t1 : Bool
+  t1 = not (runsOkOf (fixedOf m) k (m .vector) (m .bytes))
+
+  abbrev t2 : Bool
+  t2 = not (wellFormedOf (m .warp))
+
+  abbrev t5 : Bool
+  t5 = not (onKernel k (m .warp))
+
+  abbrev before : ℕ → List (Row Bool)
+  before n = take n (stepTests k m)
+
+  pub row1 : Iff (stepOf k m .code ≡ 1) ((silent (before 0) ≡ true) × (t1 ≡ true))
+  row1 = step-row k m (before 0) (2 ⇒ t2 ∷ 3 ⇒ m .warp .ended ∷ 4 ⇒ m .warp .waiting ∷ 5 ⇒ t5 ∷ own) 1 t1 refl (λ z. omega arith) refl (below 1 (lit≤ tt))
+
+  pub row2 : Iff (stepOf k m .code ≡ 2) ((silent (before 1) ≡ true) × (t2 ≡ true))
+  row2 = step-row k m (before 1) (3 ⇒ m .warp .ended ∷ 4 ⇒ m .warp .waiting ∷ 5 ⇒ t5 ∷ own) 2 t2 refl (λ z. omega arith) refl (below 2 (lit≤ tt))
+
+  pub row3 : Iff (stepOf k m .code ≡ 3) ((silent (before 2) ≡ true) × (m .warp .ended ≡ true))
+  row3 = step-row k m (before 2) (4 ⇒ m .warp .waiting ∷ 5 ⇒ t5 ∷ own) 3 (m .warp .ended) refl (λ z. omega arith) refl (below 3 (lit≤ tt))
+
+  pub row4 : Iff (stepOf k m .code ≡ 4) ((silent (before 3) ≡ true) × (m .warp .waiting ≡ true))
+  row4 = step-row k m (before 3) (5 ⇒ t5 ∷ own) 4 (m .warp .waiting) refl (λ z. omega arith) refl (below 4 (lit≤ tt))
+
+  pub row5 : Iff (stepOf k m .code ≡ 5) ((silent (before 4) ≡ true) × (t5 ≡ true))
+  row5 = step-row k m (before 4) own 5 t5 refl (λ z. omega arith) refl (below 5 (lit≤ tt))
+
+  -- from 6 on: the instruction's own table says
+  pub row-own : (n : ℕ) → 6 ≤ n → Iff (stepOf k m .code ≡ n) ((silent (stepTests k m) ≡ true) × (first own ≡ n))
+  unfolding stepOf
+  row-own n h = late (runsOkOf (fixedOf m) k (m .vector) (m .bytes)) (wellFormedOf (m .warp)) (m .warp .ended) (m .warp .waiting) (onKernel k (m .warp)) own n h
+
+-- ---- a step, test by test
+
+module _ (k : List ℕ) (m : State) where
+  pub step-runs : runsOkOf (fixedOf m) k (m .vector) (m .bytes) ≡ false → stepOf k m ≡ outcome 1 m
   unfolding stepOf
   step-runs r = rw r
 
-  module _ (r : runsOkOf (w .fixed) (length k) (length v) (length d) ≡ true) where
-    pub step-malformed : wellFormedOf w ≡ false → stepOf k w v d ≡ outcome 2 w v d
+  module _ (r : runsOkOf (fixedOf m) k (m .vector) (m .bytes) ≡ true) where
+    pub step-malformed : wellFormedOf (m .warp) ≡ false → stepOf k m ≡ outcome 2 m
     unfolding stepOf
     step-malformed f = rw (r, f)
 
-    module _ (f : wellFormedOf w ≡ true) where
-      pub step-ended : w .ended ≡ true → stepOf k w v d ≡ outcome 3 w v d
+    module _ (f : wellFormedOf (m .warp) ≡ true) where
+      pub step-ended : m .warp .ended ≡ true → stepOf k m ≡ outcome 3 m
       unfolding stepOf
       step-ended e = rw (r, f, e)
 
-      module _ (e : w .ended ≡ false) where
-        pub step-waits : w .waiting ≡ true → stepOf k w v d ≡ outcome 4 w v d
+      module _ (e : m .warp .ended ≡ false) where
+        pub step-waits : m .warp .waiting ≡ true → stepOf k m ≡ outcome 4 m
         unfolding stepOf
         step-waits b = rw (r, f, e, b)
 
-        module _ (b : w .waiting ≡ false) where
-          pub step-off : onKernel k w ≡ false → stepOf k w v d ≡ outcome 5 w v d
+        module _ (b : m .warp .waiting ≡ false) where
+          pub step-off : onKernel k (m .warp) ≡ false → stepOf k m ≡ outcome 5 m
           unfolding stepOf
           step-off o = rw (r, f, e, b, o)
 
-          pub step-exec : onKernel k w ≡ true → stepOf k w v d ≡ execOf (decodeOf (getD k (placeOf w) 0)) w v d
-          unfolding stepOf
+          pub step-exec : onKernel k (m .warp) ≡ true → stepOf k m ≡ execOf (instrAt k m) m
+          unfolding stepOf execOf
           step-exec o = rw (r, f, e, b, o)
+
+-- ---- a step by its word
+
+stopped : (e b o : Bool) (rs : List (Row Bool)) → (first (3 ⇒ e ∷ 4 ⇒ b ∷ 5 ⇒ not o ∷ []) ≡ 0 → ⊥) → first (3 ⇒ e ∷ 4 ⇒ b ∷ 5 ⇒ not o ∷ rs) ≡ first (3 ⇒ e ∷ 4 ⇒ b ∷ 5 ⇒ not o ∷ [])
+stopped true b o rs z = refl
+stopped false true o rs z = refl
+stopped false false false rs z = refl
+stopped false false true rs z = absurd (z refl)
+
+found : (e b o : Bool) (rs : List (Row Bool)) → first (3 ⇒ e ∷ 4 ⇒ b ∷ 5 ⇒ not o ∷ []) ≡ 0 → first (3 ⇒ e ∷ 4 ⇒ b ∷ 5 ⇒ not o ∷ rs) ≡ first rs
+found true b o rs z = absurd (omega arith)
+found false true o rs z = absurd (omega arith)
+found false false false rs z = absurd (omega arith)
+found false false true rs z = refl
+
+module _ (k : List ℕ) (m : State) (r : runsOkOf (fixedOf m) k (m .vector) (m .bytes) ≡ true) (f : wellFormedOf (m .warp) ≡ true) where
+  pub step-unfetched : (fetchOf k (m .warp) .code ≡ 0 → ⊥) → stepOf k m ≡ outcome (fetchOf k (m .warp) .code) m
+  unfolding stepOf fetchOf
+  step-unfetched z = rw (r, f, stopped (m .warp .ended) (m .warp .waiting) (onKernel k (m .warp)) (refusalsOf (instrAt k m) m) z, ne-eqb _ _ z)
+
+  pub step-fetched : fetchOf k (m .warp) .code ≡ 0 → stepOf k m ≡ execOf (decodeOf (fetchOf k (m .warp) .word)) m
+  unfolding stepOf fetchOf execOf
+  step-fetched z = rw (r, f, found (m .warp .ended) (m .warp .waiting) (onKernel k (m .warp)) (refusalsOf (instrAt k m) m) z, z)
+
+-- ---- an instruction alone
+
+module _ (i : Instr) (m : State) where
+  pub exec-refused : (n : ℕ) → (n ≡ 0 → ⊥) → first (refusalsOf i m) ≡ n → execOf i m ≡ outcome n m
+  unfolding execOf
+  exec-refused n z e = rw (e, ne-eqb n 0 z)
+
+  pub exec-taken : first (refusalsOf i m) ≡ 0 → execOf i m ≡ outcome 0 (effect (effectOf i m) m)
+  unfolding execOf
+  exec-taken e = rw e

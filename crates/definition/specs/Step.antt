@@ -1,57 +1,32 @@
--- One step: the numbered tests in their order, and then the instruction.
-use Prim.Native.Nat.{ℕ, _+_, _-_, _*_, _/_, _^_}
-use mathlib.Core.Bool.{Bool, not, _&&_, cond}
-use mathlib.Core.List.{List, [], _∷_, _++_}
-use lib.Dec.{eqb, leb, ltb}
-use lib.ListN.{length, getD}
-use Rattle.isa.specs.Table.{Row, _⇒_}
-use Rattle.isa.specs.Decode.{decodeOf}
-use Rattle.lanes.specs.Lanes.{fileWords}
-use Rattle.memory.specs.Memory.{dataLimit}
-use Rattle.warp.specs.declared.Fixed.{Fixed}
+-- One step: the first test that holds refuses it, and where none does the instruction has its effect.
+use Prim.Native.Nat.{ℕ}
+use mathlib.Core.Bool.{cond}
+use mathlib.Core.List.{List}
+use lib.Dec.{eqb}
+use lib.ListN.{getD}
+use Rattle.answer.specs.Rows.{first}
+use Rattle.isa.specs.declared.Instr.{Instr}
 use Rattle.warp.specs.declared.Warp.{Warp}
-use Rattle.warp.specs.WellFormed.{every, between, wellFormedOf}
-use Rattle.definition.specs.Outcome.{Outcome, outcome}
-use Rattle.definition.specs.Exec.{execOf}
+use Rattle.definition.specs.State.{State, Outcome, unless, placeOf, instrAt}
+use Rattle.definition.specs.Refuse.{fetchTests, refusalsOf, testsOf}
+use Rattle.definition.specs.Exec.{effect, effectOf}
 
--- the most kernel words
-abbrev pub kernelLimit : ℕ
-kernelLimit = 16384
+unfoldable pub stepOf : List ℕ → State → Outcome
+stepOf k m = unless (first (testsOf k m)) (effect (effectOf (instrAt k m) m) m) m
 
--- the lent runs' sizes, and the bases plus lengths: of words of the kernel, words of the vector file, bytes of data
-unfoldable pub runsOkOf : Fixed → ℕ → ℕ → ℕ → Bool
-runsOkOf f words file bytes =
-    every
-    (between 1 words kernelLimit
-    ∷ leb (f .codebase + 4 * words) (2 ^ 32)
-    ∷ eqb file fileWords
-    ∷ leb bytes dataLimit
-    ∷ leb (f .database + bytes) (2 ^ 32)
-    ∷ [])
+-- an instruction alone, with its own tests
+unfoldable pub execOf : Instr → State → Outcome
+execOf i m = unless (first (refusalsOf i m)) (effect (effectOf i m) m) m
 
--- the number of the first test that holds; 0 where none does
-abbrev pub first : List (Row Bool) → ℕ
-first [] = 0
-first (t ∷ ts) = cond (t .is) (t .code) (first ts)
+-- a number of 3 to 5, or 0 and the word that the PC lies on (0 where it is refused)
+pub record Fetched : Type 0 where
+  pub code : ℕ
+  pub word : ℕ
 
--- what a step and a run test first, refusals 1 and 2
-abbrev pub stateTests : List ℕ → Warp → List ℕ → List ℕ → List (Row Bool)
-stateTests k w v d = 1 ⇒ not (runsOkOf (w .fixed) (length k) (length v) (length d)) ∷ 2 ⇒ not (wellFormedOf w) ∷ []
+abbrev pub fetched : ℕ → ℕ → Fetched
+fetched c w = record { code = c; word = w }
 
--- which kernel word the PC lies on
-abbrev pub placeOf : Warp → ℕ
-placeOf w = (w .pc - w .fixed .codebase) / 4
-
-abbrev pub onKernel : List ℕ → Warp → Bool
-onKernel k w = leb (w .fixed .codebase) (w .pc) && ltb (placeOf w) (length k)
-
-abbrev pub stepTests : List ℕ → Warp → List ℕ → List ℕ → List (Row Bool)
-stepTests k w v d = stateTests k w v d ++ (3 ⇒ w .ended ∷ 4 ⇒ w .waiting ∷ 5 ⇒ not (onKernel k w) ∷ [])
-
--- refusal n leaves all as it was handed in
-abbrev pub unless : ℕ → Outcome → Warp → List ℕ → List ℕ → Outcome
-unless n o w v d = cond (eqb n 0) o (outcome n w v d)
-
--- a word that isn't in the tables decodes to Refused, which answers 6
-unfoldable pub stepOf : List ℕ → Warp → List ℕ → List ℕ → Outcome
-stepOf k w v d = unless (first (stepTests k w v d)) (execOf (decodeOf (getD k (placeOf w) 0)) w v d) w v d
+unfoldable pub fetchOf : List ℕ → Warp → Fetched
+fetchOf k w =
+    let c : ℕ = first (fetchTests k w) in
+    fetched c (cond (eqb c 0) (getD k (placeOf w) 0) 0)

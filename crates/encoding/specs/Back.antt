@@ -5,16 +5,16 @@ use mathlib.Core.List.{List, _++_}
 use mathlib.Core.Bool.{Bool, true, false, cond, _&&_}
 use native.Mathlib.Omega.{arith}
 use lib.Dec.{T, eqb, eqb→eq}
+use Rattle.answer.specs.Rows.{Row}
 use Rattle.word.specs.declared.Op.{Op}
-use Rattle.isa.specs.declared.Fields.{Fields}
 use Rattle.isa.specs.declared.LoadOp.{LoadOp}
 use Rattle.isa.specs.declared.StoreOp.{StoreOp}
 use Rattle.isa.specs.declared.Source.{Source}
 use Rattle.isa.specs.declared.Source.the-variants as From
 use Rattle.isa.specs.declared.Instr.{Instr}
 use Rattle.isa.specs.declared.Instr.the-variants as I
-use Rattle.isa.specs.Fields.{fieldsOf, funct6, vm, immI, immS, immB, immU, immJ}
-use Rattle.isa.specs.Table.{Row, on, wordAt, wordsOf}
+use Rattle.isa.specs.Fields.{Fields, fieldsOf, funct6, vm, immI, immS, immB, immU, immJ, privateLoadOffset, privateStoreOffset}
+use Rattle.isa.specs.Table.{on, wordAt, wordsOf}
 use Rattle.isa.specs.Scalar.{luiOf, auipcOf, jalOf, jumps, jalrOf, conditions, branchAs, branchOf, loads, loadAs, loadOf, stores, storeAs, storeOf, immediates, leftShifts, rightShifts, immediateAs, shiftAs, shiftOf, shifts, opImmOf, opAs, byFunct3, ops, opOf, fences, fenceOf, csrs, csrImmediates, csrAs, csrImmAs, csrOf}
 use Rattle.isa.specs.Vector.{Formed, has, vectorTable, multiplyTable, vectorAs, moves, plainOf, movesM, multiplyOf, fromV, fromX, fromI, operands, operandsOf, vectorOf}
 use Rattle.isa.specs.Ventus.{vbranchAs, joinOf, joins, splitsOf, endPrgOf, barrierOf, stops, stopOf, vstores, accesses, vloadAs, vstoreAs, laneAccessOf, ploadAs, pstoreAs, privateOf}
@@ -401,7 +401,10 @@ module _ (c : Fields) (h : Small c) where
   unfolding privateOf wordOf
   private-back =
       fixed-at (Back 0b0101011 c) (c .funct7 / 64) 0 _ (refused _ c)
-      (λ z. accesses-back 0b0101011 ploadAs pstoreAs (λ o e. type-I 0b0101011 c h _ e) (λ o e. type-S 0b0101011 c h _ e))
+      (λ z.
+      let l : privateLoadOffset c ≡ immI c = omega arith in
+      let s : privateStoreOffset c ≡ immS c = omega arith in
+      accesses-back 0b0101011 ploadAs pstoreAs (λ o e. rw l (type-I 0b0101011 c h _ e)) (λ o e. rw s (type-S 0b0101011 c h _ e)))
 
 -- every word that is not Refused is the word of its own instruction
 pub back : (w : ℕ) → (decodeOf w ≡ I.Refused → ⊥) → wordOf (decodeOf w) ≡ w

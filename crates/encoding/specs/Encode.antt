@@ -3,10 +3,10 @@ use Prim.Native.Nat.{ℕ, _+_, _*_, _/_, _%_, _^_}
 use mathlib.Core.List.{List, [], _∷_, _++_}
 use mathlib.Core.Bool.{cond}
 use lib.Dec.{eqb}
+use Rattle.answer.specs.Rows.{Row}
 use Rattle.word.specs.declared.Op.{Op}
 use Rattle.word.specs.declared.Cond.{Cond}
 use Rattle.word.specs.declared.Cond.the-variants as C
-use Rattle.isa.specs.declared.Fields.{Fields}
 use Rattle.isa.specs.declared.LoadOp.{LoadOp}
 use Rattle.isa.specs.declared.LoadOp.the-variants as L
 use Rattle.isa.specs.declared.StoreOp.{StoreOp}
@@ -15,9 +15,11 @@ use Rattle.isa.specs.declared.CsrOp.{CsrOp}
 use Rattle.isa.specs.declared.CsrOp.the-variants as R
 use Rattle.isa.specs.declared.Source.{Source}
 use Rattle.isa.specs.declared.Source.the-variants as From
+use Rattle.isa.specs.declared.Space.{Space}
+use Rattle.isa.specs.declared.Space.the-variants.{Plain, Private}
 use Rattle.isa.specs.declared.Instr.{Instr}
 use Rattle.isa.specs.declared.Instr.the-variants as I
-use Rattle.isa.specs.Table.{Row}
+use Rattle.isa.specs.Fields.{Fields}
 use Rattle.isa.specs.Scalar.{conditions, loads, stores, immediates, leftShifts, rightShifts, base, multiplies, alternates, csrs, csrImmediates}
 use Rattle.isa.specs.Vector.{Formed, vectorTable, multiplyTable}
 use Rattle.isa.specs.Ventus.{vstores}
@@ -127,6 +129,10 @@ typeJ imm rd =
 abbrev pub unmasked : ℕ → ℕ
 unmasked n = n * 2 + 1
 
+abbrev pub laneOpcode : Space → ℕ
+laneOpcode Plain = 0b1111011
+laneOpcode Private = 0b0101011
+
 unfoldable pub wordOf : Instr → ℕ
 wordOf I.Refused = 0
 wordOf (I.Lui d n) = wordFrom 0b0110111 (typeU n (d .0))
@@ -153,7 +159,5 @@ wordOf I.Join = wordFrom 0b1011011 (typeR 0 0 0 0b010 0)
 wordOf (I.SetRpc d a n) = wordFrom 0b1011011 (typeI n (a .0) 0b011 (d .0))
 wordOf I.EndPrg = wordFrom 0b0001011 (typeR 0b0000000 0 0 0b100 0)
 wordOf (I.Barrier n) = wordFrom 0b0001011 (typeR 0b0000010 0 n 0b100 0)
-wordOf (I.VLoad o d a n) = wordFrom 0b1111011 (typeI n (a .0) (codeIn loadNumber loads o) (d .0))
-wordOf (I.VStore o a b n) = wordFrom 0b1111011 (typeS n (b .0) (a .0) (codeIn storeNumber vstores o))
-wordOf (I.PLoad o d a n) = wordFrom 0b0101011 (typeI n (a .0) (codeIn loadNumber loads o) (d .0))
-wordOf (I.PStore o a b n) = wordFrom 0b0101011 (typeS n (b .0) (a .0) (codeIn storeNumber vstores o))
+wordOf (I.VLoad s o d a n) = wordFrom (laneOpcode s) (typeI n (a .0) (codeIn loadNumber loads o) (d .0))
+wordOf (I.VStore s o a b n) = wordFrom (laneOpcode s) (typeS n (b .0) (a .0) (codeIn storeNumber vstores o))

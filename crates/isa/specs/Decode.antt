@@ -1,9 +1,10 @@
 -- A word's instruction, by its opcode; Refused is refusal 6.
 use Prim.Native.Nat.{ℕ, _%_, _^_}
 use mathlib.Core.List.{[], _∷_}
+use Rattle.answer.specs.Rows.{_⇒_}
 use Rattle.isa.specs.declared.Instr.{Instr}
 use Rattle.isa.specs.Fields.{fieldsOf}
-use Rattle.isa.specs.Table.{_⇒_, Words, wordAt}
+use Rattle.isa.specs.Table.{Words, wordAt}
 use Rattle.isa.specs.Scalar.{luiOf, auipcOf, jalOf, jalrOf, branchOf, loadOf, storeOf, opImmOf, opOf, fenceOf, csrOf}
 use Rattle.isa.specs.Vector.{vectorOf}
 use Rattle.isa.specs.Ventus.{splitsOf, stopOf, laneAccessOf, privateOf}

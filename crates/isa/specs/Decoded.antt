@@ -1,4 +1,4 @@
--- What a word decodes to fits.
+-- What a word decodes to fits (Fits.antt).
 use Prim.Native.Nat.{ℕ, _+_, _/_, _%_, _^_, _<_}
 use mathlib.Core.Path.{_≡_, refl}
 use mathlib.Core.List.{List, [], _∷_, _++_}
@@ -6,16 +6,17 @@ use mathlib.Core.Bool.{Bool, true, false, cond, not, _&&_, _||_}
 use native.Mathlib.Omega.{arith}
 use lib.Dec.{T}
 use borrow.Author.Tests.{lt-ltb}
+use Rattle.answer.specs.Rows.{Row}
 use Rattle.word.specs.declared.Op.{Op}
-use Rattle.isa.specs.declared.Fields.{Fields}
 use Rattle.isa.specs.declared.LoadOp.{LoadOp}
 use Rattle.isa.specs.declared.StoreOp.{StoreOp}
 use Rattle.isa.specs.declared.Source.{Source}
 use Rattle.isa.specs.declared.Source.the-variants as From
 use Rattle.isa.specs.declared.Instr.{Instr}
 use Rattle.isa.specs.declared.Instr.the-variants as I
-use Rattle.isa.specs.Fields.{x, v, fieldsOf, funct6, vm}
-use Rattle.isa.specs.Table.{Row, on, wordAt, wordsOf, fixed}
+use Rattle.isa.specs.Bounds.{fieldLimit}
+use Rattle.isa.specs.Fields.{Fields, x, v, fieldsOf, funct6, vm}
+use Rattle.isa.specs.Table.{on, wordAt, wordsOf, fixed}
 use Rattle.isa.specs.Scalar.{luiOf, auipcOf, jalOf, jumps, jalrOf, conditions, branchAs, branchOf, loads, loadAs, loadOf, stores, storeAs, storeOf, immediates, leftShifts, rightShifts, immediateAs, shiftAs, shiftOf, shifts, opImmOf, base, multiplies, alternates, opAs, byFunct3, ops, opOf, fences, fenceOf, csrs, csrImmediates, csrAs, csrImmAs, csrOf}
 use Rattle.isa.specs.Vector.{Formed, vectorTable, multiplyTable, has, vectorAs, moves, plainOf, movesM, multiplyOf, operands, operandsOf, vectorOf}
 use Rattle.isa.specs.Ventus.{vbranchAs, joinOf, joins, splitsOf, endPrgOf, barrierOf, stops, stopOf, vstores, accesses, vloadAs, vstoreAs, laneAccessOf, ploadAs, pstoreAs, privateOf}
@@ -25,10 +26,10 @@ use Rattle.isa.specs.Laws.{both, Rows, found, rows-append, every, rows-t
 
 -- the fields are those of a word; funct7 is what is left
 pub record Small (c : Fields) : Type 0 where
-  pub rd : c .rd < 32
+  pub rd : c .rd < fieldLimit
   pub funct3 : c .funct3 < 8
-  pub rs1 : c .rs1 < 32
-  pub rs2 : c .rs2 < 32
+  pub rs1 : c .rs1 < fieldLimit
+  pub rs2 : c .rs2 < fieldLimit
 
 pub small : (w : ℕ) → Small (fieldsOf w)
 small w = record { rd = omega arith; funct3 = omega arith; rs1 = omega arith; rs2 = omega arith }
@@ -43,11 +44,11 @@ all-hold [] h = refl
 all-hold ((n under k) ∷ rs) h = rw (lt-ltb n k (h .0)) (all-hold rs (h .1))
 all-hold ((o listed t) ∷ rs) h = rw (true-of (isIn o t) (h .0)) (all-hold rs (h .1))
 
-no-amount : (b : Bool) (n : ℕ) → T (not b) → cond b n 0 < 32
+no-amount : (b : Bool) (n : ℕ) → T (not b) → cond b n 0 < fieldLimit
 no-amount true n t = absurd t
 no-amount false n t = omega arith
 
-an-amount : (b : Bool) (n : ℕ) → n < 32 → cond b n 0 < 32
+an-amount : (b : Bool) (n : ℕ) → n < fieldLimit → cond b n 0 < fieldLimit
 an-amount true n h = h
 an-amount false n h = omega arith
 
@@ -164,13 +165,13 @@ module _ (c : Fields) (h : Small c) (top : c .funct7 < 128) where
 
   -- the vector words, by the last operand
   vector-rows :
-      (s : Source) (t : List (Row Formed)) → fieldOf s < 32 → T (every (formedIn s) t)
+      (s : Source) (t : List (Row Formed)) → fieldOf s < fieldLimit → T (every (formedIn s) t)
       → Rows Fits (on c) (funct6 c) (wordsOf (vectorAs s) t)
   vector-rows s t z q =
       rows-tested Fits (vectorAs s) (formedIn s) c (funct6 c) t q
       (λ f q. where-formed _ (has s f) (isIn (f .op) (vectorOps s)) q (λ l. (h .rd, (h .rs2, (z, (l, tt))))))
 
-  plain-fits : (s : Source) → fieldOf s < 32 → Fits (plainOf s c)
+  plain-fits : (s : Source) → fieldOf s < fieldLimit → Fits (plainOf s c)
   unfolding plainOf
   plain-fits s z =
       found Fits (on c) I.Refused (funct6 c) (moves s ++ wordsOf (vectorAs s) vectorTable) tt
@@ -186,7 +187,7 @@ module _ (c : Fields) (h : Small c) (top : c .funct7 < 128) where
   moves-m-fit (From.X r) = ((λ e. fixed-fits (c .rs2) 0 _ (h .rd, (h .rs1, tt))), tt)
   moves-m-fit (From.I n) = tt
 
-  multiply-fits : (s : Source) → fieldOf s < 32 → Fits (multiplyOf s c)
+  multiply-fits : (s : Source) → fieldOf s < fieldLimit → Fits (multiplyOf s c)
   unfolding multiplyOf
   multiply-fits s z =
       found Fits (on c) I.Refused (funct6 c) (movesM s ++ wordsOf (vectorAs s) multiplyTable) tt

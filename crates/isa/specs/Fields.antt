@@ -1,8 +1,15 @@
 -- A word's fields, and the immediates that they hold.
 use Prim.Native.Nat.{ℕ, _+_, _*_, _/_, _%_, _^_}
-use Rattle.isa.specs.declared.Fields.{Fields}
 use Rattle.isa.specs.declared.XReg.{XReg}
 use Rattle.isa.specs.declared.VReg.{VReg}
+
+-- as in an R-type word, all but the opcode
+pub record Fields : Type 0 where
+  pub rd : ℕ
+  pub funct3 : ℕ
+  pub rs1 : ℕ
+  pub rs2 : ℕ
+  pub funct7 : ℕ
 
 -- bits 11 to 7, 14 to 12, 19 to 15, 24 to 20, 31 to 25
 abbrev pub fieldsOf : ℕ → Fields
@@ -45,3 +52,10 @@ abbrev pub immJ : Fields → ℕ
 immJ c =
     c .funct7 / 64 * 1048576 + c .rs1 * 32768 + c .funct3 * 4096 + c .rs2 % 2 * 2048 + c .funct7 % 64 * 32
     + c .rs2 / 2 * 2
+
+-- a private word's offset, 11 bits: those of I and S without bit 31
+abbrev pub privateLoadOffset : Fields → ℕ
+privateLoadOffset c = c .funct7 % 64 * 32 + c .rs2
+
+abbrev pub privateStoreOffset : Fields → ℕ
+privateStoreOffset c = c .funct7 % 64 * 32 + c .rd

@@ -1,8 +1,9 @@
--- Every field of an instruction in its range.
+-- The fields of a word: each field of an instruction in its range. Every decoded instruction has them so, and its word is its own (crate encoding). What exec may assume of the fields that it reads is in the contracts of src/fields.rt.
 use Prim.Native.Nat.{ℕ, _%_, _^_, _<_}
 use mathlib.Core.List.{List, [], _∷_, _++_}
 use mathlib.Core.Bool.{Bool, true, false, cond, _&&_, _||_}
 use lib.Dec.{T, eqb, ltb}
+use Rattle.answer.specs.Rows.{Row, _⇒_}
 use Rattle.word.specs.declared.Op.{Op}
 use Rattle.isa.specs.declared.XReg.{XReg}
 use Rattle.isa.specs.declared.VReg.{VReg}
@@ -10,7 +11,9 @@ use Rattle.isa.specs.declared.Source.{Source}
 use Rattle.isa.specs.declared.Source.the-variants as From
 use Rattle.isa.specs.declared.Instr.{Instr}
 use Rattle.isa.specs.declared.Instr.the-variants as I
-use Rattle.isa.specs.Table.{Row, _⇒_}
+use Rattle.isa.specs.declared.Space.{Space}
+use Rattle.isa.specs.declared.Space.the-variants.{Plain, Private}
+use Rattle.isa.specs.Bounds.{scalarRegisters, vectorRegisters, fieldLimit}
 use Rattle.isa.specs.Scalar.{immediates, leftShifts, rightShifts, base, multiplies, alternates}
 use Rattle.isa.specs.Vector.{Formed, has, vectorTable, multiplyTable}
 use Rattle.isa.specs.Number.{number}
@@ -26,10 +29,10 @@ isIn o [] = false
 isIn o (r ∷ rs) = eqb (number o) (number (r .is)) || isIn o rs
 
 abbrev pub xreg : XReg → Range
-xreg r = r .0 under 32
+xreg r = r .0 under scalarRegisters
 
 abbrev pub vreg : VReg → Range
-vreg r = r .0 under 32
+vreg r = r .0 under vectorRegisters
 
 -- a vector word's last operand is in the field of rs1, whatever it is
 abbrev pub fieldOf : Source → ℕ
@@ -39,6 +42,11 @@ fieldOf (From.I n) = n
 
 abbrev pub even : ℕ → Range
 even n = n % 2 under 1
+
+-- a lane access's offset
+abbrev pub offset : Space → ℕ → Range
+offset Plain n = n under 2 ^ 12
+offset Private n = n under 2 ^ 11
 
 abbrev pub shiftOps : List (Row Op)
 shiftOps = leftShifts ++ rightShifts
@@ -68,13 +76,13 @@ rangesOf (I.Jalr d a n) = xreg d ∷ xreg a ∷ n under 2 ^ 12 ∷ []
 rangesOf (I.Branch o a b n) = xreg a ∷ xreg b ∷ n under 2 ^ 13 ∷ even n ∷ []
 rangesOf (I.Load o d a n) = xreg d ∷ xreg a ∷ n under 2 ^ 12 ∷ []
 rangesOf (I.Store o a b n) = xreg a ∷ xreg b ∷ n under 2 ^ 12 ∷ []
-rangesOf (I.OpImm o d a n) = xreg d ∷ xreg a ∷ n under 2 ^ 12 ∷ amount o n under 32 ∷ o listed (immediates ++ shiftOps) ∷ []
+rangesOf (I.OpImm o d a n) = xreg d ∷ xreg a ∷ n under 2 ^ 12 ∷ amount o n under fieldLimit ∷ o listed (immediates ++ shiftOps) ∷ []
 rangesOf (I.OpReg o d a b) = xreg d ∷ xreg a ∷ xreg b ∷ o listed (base ++ multiplies ++ alternates) ∷ []
-rangesOf (I.Fence d a n) = d under 2 ^ 5 ∷ a under 2 ^ 5 ∷ n under 2 ^ 12 ∷ []
+rangesOf (I.Fence d a n) = d under fieldLimit ∷ a under fieldLimit ∷ n under 2 ^ 12 ∷ []
 rangesOf (I.Csr o d a n) = xreg d ∷ xreg a ∷ n under 2 ^ 12 ∷ []
-rangesOf (I.CsrImm o d a n) = xreg d ∷ a under 2 ^ 5 ∷ n under 2 ^ 12 ∷ []
-rangesOf (I.Vector o a) = vreg (a .vd) ∷ vreg (a .vs2) ∷ fieldOf (a .src) under 32 ∷ o listed vectorOps (a .src) ∷ []
-rangesOf (I.VMove d s) = vreg d ∷ fieldOf s under 32 ∷ []
+rangesOf (I.CsrImm o d a n) = xreg d ∷ a under fieldLimit ∷ n under 2 ^ 12 ∷ []
+rangesOf (I.Vector o a) = vreg (a .vd) ∷ vreg (a .vs2) ∷ fieldOf (a .src) under fieldLimit ∷ o listed vectorOps (a .src) ∷ []
+rangesOf (I.VMove d s) = vreg d ∷ fieldOf s under fieldLimit ∷ []
 rangesOf (I.VMoveXS d b) = xreg d ∷ vreg b ∷ []
 rangesOf (I.VMoveSX d a) = vreg d ∷ xreg a ∷ []
 rangesOf (I.Vid d) = vreg d ∷ []
@@ -82,11 +90,9 @@ rangesOf (I.VBranch o a b n) = vreg a ∷ vreg b ∷ n under 2 ^ 13 ∷ even n �
 rangesOf I.Join = []
 rangesOf (I.SetRpc d a n) = xreg d ∷ xreg a ∷ n under 2 ^ 12 ∷ []
 rangesOf I.EndPrg = []
-rangesOf (I.Barrier n) = n under 2 ^ 5 ∷ []
-rangesOf (I.VLoad o d a n) = vreg d ∷ vreg a ∷ n under 2 ^ 12 ∷ []
-rangesOf (I.VStore o a b n) = vreg a ∷ vreg b ∷ n under 2 ^ 12 ∷ []
-rangesOf (I.PLoad o d a n) = vreg d ∷ vreg a ∷ n under 2 ^ 11 ∷ []
-rangesOf (I.PStore o a b n) = vreg a ∷ vreg b ∷ n under 2 ^ 11 ∷ []
+rangesOf (I.Barrier n) = n under fieldLimit ∷ []
+rangesOf (I.VLoad s o d a n) = vreg d ∷ vreg a ∷ offset s n ∷ []
+rangesOf (I.VStore s o a b n) = vreg a ∷ vreg b ∷ offset s n ∷ []
 
 abbrev pub holdsAll : List Range → Bool
 holdsAll [] = true
@@ -97,7 +103,7 @@ holdsAll (o listed t ∷ rs) = isIn o t && holdsAll rs
 abbrev pub fitsOf : Instr → Bool
 fitsOf i = holdsAll (rangesOf i)
 
--- the facts: of `Lui d n`, (d .0 < 32) × ((n < 2 ^ 20) × Unit)
+-- the facts: of `Lui d n`, (d .0 < scalarRegisters) × ((n < 2 ^ 20) × Unit)
 abbrev pub Holds : List Range → Type 0
 Holds [] = Unit {0}
 Holds (n under k ∷ rs) = (n < k) × Holds rs

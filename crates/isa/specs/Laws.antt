@@ -5,10 +5,11 @@ use mathlib.Core.List.{List, [], _∷_, _++_}
 use mathlib.Core.Bool.{Bool, true, false, cond, _&&_}
 use lib.Dec.{T, eqb}
 use borrow.Author.Tests.{eqb-true, ne-eqb}
-use Rattle.isa.specs.declared.Fields.{Fields}
+use Rattle.answer.specs.Rows.{Row}
 use Rattle.isa.specs.declared.Instr.{Instr}
 use Rattle.isa.specs.declared.Instr.the-variants as I
-use Rattle.isa.specs.Table.{Row, seek, on, wordsOf, fixed}
+use Rattle.isa.specs.Fields.{Fields}
+use Rattle.isa.specs.Table.{seek, on, wordsOf, fixed}
 
 pub both : (a b : Bool) → T (a && b) → T a × T b
 both true b t = (tt, t)

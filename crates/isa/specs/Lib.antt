@@ -1,3 +1,4 @@
+pub mod Bounds
 pub mod Fields
 pub mod Table
 pub mod Scalar
@@ -6,6 +7,7 @@ pub mod Ventus
 pub mod Decode
 pub mod Cards
 pub mod Number
+pub mod Kinds
 pub mod Fits
 pub mod Laws
 pub mod Decoded

@@ -1,10 +1,10 @@
 -- The scalar words: RV32I without ECALL and EBREAK, M, the six CSR instructions, FENCE.
 use mathlib.Core.List.{List, [], _∷_, _++_}
+use Rattle.answer.specs.Rows.{Row, _⇒_}
 use Rattle.word.specs.declared.Op.{Op}
 use Rattle.word.specs.declared.Op.the-variants as O
 use Rattle.word.specs.declared.Cond.{Cond}
 use Rattle.word.specs.declared.Cond.the-variants as C
-use Rattle.isa.specs.declared.Fields.{Fields}
 use Rattle.isa.specs.declared.Instr.{Instr}
 use Rattle.isa.specs.declared.Instr.the-variants as I
 use Rattle.isa.specs.declared.LoadOp.{LoadOp}
@@ -13,8 +13,8 @@ use Rattle.isa.specs.declared.StoreOp.{StoreOp}
 use Rattle.isa.specs.declared.StoreOp.the-variants as S
 use Rattle.isa.specs.declared.CsrOp.{CsrOp}
 use Rattle.isa.specs.declared.CsrOp.the-variants as R
-use Rattle.isa.specs.Fields.{x, immI, immS, immB, immU, immJ}
-use Rattle.isa.specs.Table.{Row, _⇒_, Words, wordAt, wordsOf}
+use Rattle.isa.specs.Fields.{Fields, x, immI, immS, immB, immU, immJ}
+use Rattle.isa.specs.Table.{Words, wordAt, wordsOf}
 
 -- by opcode alone
 abbrev pub luiOf : Fields → Instr

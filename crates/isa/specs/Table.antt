@@ -3,23 +3,19 @@ use Prim.Native.Nat.{ℕ}
 use mathlib.Core.List.{List, [], _∷_}
 use mathlib.Core.Bool.{cond}
 use lib.Dec.{eqb}
-use Rattle.isa.specs.declared.Fields.{Fields}
+use Rattle.answer.specs.Rows.{Row, _⇒_}
+use Rattle.isa.specs.Fields.{Fields}
 use Rattle.isa.specs.declared.Instr.{Instr}
 use Rattle.isa.specs.declared.Instr.the-variants.{Refused}
-
--- a row of a table: a code and what it stands for
-pub record Row (A : Type 0) : Type 0 where
-  pub code : ℕ
-  pub is : A
-
-infixr 68 _⇒_
-abbrev pub _⇒_ : {A : Type 0} → ℕ → A → Row A
-k ⇒ a = record { code = k; is = a }
 
 -- what f makes of the row at code k, or the other answer where there is no such row
 abbrev pub seek : {A B : Type 0} → (A → B) → B → ℕ → List (Row A) → B
 seek f other k [] = other
 seek f other k (r ∷ rs) = cond (eqb k (r .code)) (f (r .is)) (seek f other k rs)
+
+-- what a table has at a code, or z where it has no such row
+abbrev pub pick : {A : Type 0} → A → ℕ → List (Row A) → A
+pick z k t = seek (λ a. a) z k t
 
 -- words by a code: each row makes an instruction of the other fields
 abbrev pub Words : Type 0

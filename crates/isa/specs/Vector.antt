@@ -1,15 +1,15 @@
 -- The vector words: the table of the rules, row by row, with its forms column.
 use mathlib.Core.List.{List, [], _∷_, _++_}
 use mathlib.Core.Bool.{Bool, true, false, cond}
+use Rattle.answer.specs.Rows.{Row, _⇒_}
 use Rattle.word.specs.declared.Op.{Op}
 use Rattle.word.specs.declared.Op.the-variants as O
-use Rattle.isa.specs.declared.Fields.{Fields}
 use Rattle.isa.specs.declared.Source.{Source}
 use Rattle.isa.specs.declared.Source.the-variants as From
 use Rattle.isa.specs.declared.Instr.{Instr}
 use Rattle.isa.specs.declared.Instr.the-variants as I
-use Rattle.isa.specs.Fields.{x, v, funct6, vm}
-use Rattle.isa.specs.Table.{Row, _⇒_, Words, wordAt, wordsOf, fixed}
+use Rattle.isa.specs.Fields.{Fields, x, v, funct6, vm}
+use Rattle.isa.specs.Table.{Words, wordAt, wordsOf, fixed}
 
 -- an op, and the forms that it has
 pub record Formed : Type 0 where

@@ -1,15 +1,16 @@
 -- The Ventus words: VBRANCH, JOIN, SETRPC, ENDPRG, BARRIER, VLOAD12 and VSTORE12, private loads and stores.
 use Prim.Native.Nat.{_+_, _/_}
 use mathlib.Core.List.{List, [], _∷_, _++_}
+use Rattle.answer.specs.Rows.{Row, _⇒_}
 use Rattle.word.specs.declared.Cond.{Cond}
-use Rattle.isa.specs.declared.Fields.{Fields}
 use Rattle.isa.specs.declared.Instr.{Instr}
 use Rattle.isa.specs.declared.Instr.the-variants as I
 use Rattle.isa.specs.declared.LoadOp.{LoadOp}
 use Rattle.isa.specs.declared.StoreOp.{StoreOp}
 use Rattle.isa.specs.declared.StoreOp.the-variants as S
-use Rattle.isa.specs.Fields.{x, v, immI, immS, immB}
-use Rattle.isa.specs.Table.{Row, _⇒_, Words, wordAt, wordsOf, fixed}
+use Rattle.isa.specs.declared.Space.the-variants.{Plain, Private}
+use Rattle.isa.specs.Fields.{Fields, x, v, immI, immS, immB, privateLoadOffset, privateStoreOffset}
+use Rattle.isa.specs.Table.{Words, wordAt, wordsOf, fixed}
 use Rattle.isa.specs.Scalar.{conditions, loads}
 
 -- 1011011, by funct3: VBEQ .. VBGEU, JOIN, SETRPC
@@ -50,20 +51,20 @@ abbrev pub accesses : (LoadOp → Fields → Instr) → (StoreOp → Fields → 
 accesses load store = wordsOf load loads ++ wordsOf store vstores
 
 abbrev pub vloadAs : LoadOp → Fields → Instr
-vloadAs o c = I.VLoad o (v (c .rd)) (v (c .rs1)) (immI c)
+vloadAs o c = I.VLoad Plain o (v (c .rd)) (v (c .rs1)) (immI c)
 
 abbrev pub vstoreAs : StoreOp → Fields → Instr
-vstoreAs o c = I.VStore o (v (c .rs1)) (v (c .rs2)) (immS c)
+vstoreAs o c = I.VStore Plain o (v (c .rs1)) (v (c .rs2)) (immS c)
 
 unfoldable pub laneAccessOf : Fields → Instr
 laneAccessOf c = wordAt c (c .funct3) (accesses vloadAs vstoreAs)
 
--- the private forms, same funct3: bit 31 zero, so the offset is of 11 bits
+-- the private forms, same funct3: bit 31 zero, the offset is the 11 bits under it
 abbrev pub ploadAs : LoadOp → Fields → Instr
-ploadAs o c = I.PLoad o (v (c .rd)) (v (c .rs1)) (immI c)
+ploadAs o c = I.VLoad Private o (v (c .rd)) (v (c .rs1)) (privateLoadOffset c)
 
 abbrev pub pstoreAs : StoreOp → Fields → Instr
-pstoreAs o c = I.PStore o (v (c .rs1)) (v (c .rs2)) (immS c)
+pstoreAs o c = I.VStore Private o (v (c .rs1)) (v (c .rs2)) (privateStoreOffset c)
 
 unfoldable pub privateOf : Fields → Instr
 privateOf c = fixed (c .funct7 / 64) 0 (wordAt c (c .funct3) (accesses ploadAs pstoreAs))

@@ -1,4 +1,7 @@
 // The instructions: registers, op enums, and one variant for each operand format.
+pub mod fields;
+pub mod kinds;
+
 use word::Cond;
 use word::Op;
 
@@ -6,15 +9,6 @@ use word::Op;
 pub struct XReg(pub u8);
 
 pub struct VReg(pub u8);
-
-// A word's fields as in an R-type word, all but the opcode.
-pub struct Fields {
-    pub rd: u8,
-    pub funct3: u8,
-    pub rs1: u8,
-    pub rs2: u8,
-    pub funct7: u8,
-}
 
 pub enum LoadOp {
     B,
@@ -49,6 +43,12 @@ pub struct VecArgs {
     pub src: Source,
 }
 
+// What an access by lanes reads or writes: data, or each thread's private part of it.
+pub enum Space {
+    Plain,
+    Private,
+}
+
 // Destination first, then rs1, then rs2 (a store: its base, then what it stores), then the immediate as the raw field.
 pub enum Instr {
     Refused,
@@ -74,8 +74,6 @@ pub enum Instr {
     SetRpc(XReg, XReg, u16),
     EndPrg,
     Barrier(u8),
-    VLoad(LoadOp, VReg, VReg, u16),
-    VStore(StoreOp, VReg, VReg, u16),
-    PLoad(LoadOp, VReg, VReg, u16),
-    PStore(StoreOp, VReg, VReg, u16),
+    VLoad(Space, LoadOp, VReg, VReg, u16),
+    VStore(Space, StoreOp, VReg, VReg, u16),
 }

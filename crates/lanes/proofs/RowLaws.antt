@@ -3,23 +3,23 @@ use mathlib.Core.Path.{_≡_, sym, ap, ap₂, _∙_, subst}
 use mathlib.Core.Bool.{Bool, true, false, not, _&&_, true≢false}
 use mathlib.Core.Logic.{⊎-elim}
 use mathlib.Core.List.{List}
-use Prim.Native.Nat.{ℕ, _+_, _*_, _%_, _^_, _<_}
-use native.Mathlib.Nat.{one-mul}
+use Prim.Native.Nat.{ℕ, zero, suc, _+_, _-_, _*_, _%_, _^_, _≤_, _<_}
+use native.Mathlib.Nat.{one-mul, le-antisymm}
 use native.Mathlib.Numerals.{add-one}
 use native.Mathlib.Omega.{arith}
 use lib.Pow.{shl-exact}
 use lib.Dec.{eqb}
 use lib.Bits.{bitAnd, bitOr, or-shifted-r, or-zero-r}
-use lib.ListN.{length, getD, set, length-set}
+use lib.ListN.{length, getD, set, replicate, length-set, length-replicate, getD-replicate}
 use lib.Seq.{getD-set-same, getD-set-other, set-getD}
 use Rattle.word.specs.Word.{pick}
 use Rattle.word.specs.declared.Cond.the-variants.{Ne}
 use Rattle.isa.specs.declared.VReg.{VReg}
 use Rattle.lanes.specs.Mask.{bit}
-use Rattle.lanes.specs.Lanes.{lanesMax, slotOf, writeLanes, maskOf, okIf, valueOf, uniformOf}
-use Rattle.lanes.specs.Laws.{newest, each-on, each-off, all-same, ok-not, value-only}
-use Rattle.lanes.specs.MaskLaws.{and-bits, mask-zero}
-use Rattle.lanes.specs.Rows.{at, Row, RowOn, Kept, holdsLane, maskStep}
+use Rattle.lanes.specs.Lanes.{lanesMax, fileWords, slotOf, stepIf, eachLane, writeLanes, maskOf, okIf, valueOf, uniformOf}
+use Rattle.lanes.specs.Laws.{newest, each-none, each-on, each-off, all-same, ok-not, value-only}
+use Rattle.lanes.specs.MaskLaws.{bit-above, and-bits, mask-zero}
+use Rattle.lanes.specs.Rows.{at, Row, RowOn, holdsLane, maskStep}
 
 pub row-none : (f : ℕ → ℕ) (a : List ℕ) → length a ≡ lanesMax → Row 0 f a
 row-none f a e = (e, λ k h. absurd (omega arith))
@@ -47,14 +47,50 @@ row-on-none on f a l o r = (r .0, more)
     more : (k : ℕ) → k < l + 1 → on k ≡ true → at a k ≡ f k
     more k z t = ⊎-elim (λ q. absurd (true≢false (sym t ∙ ap on q ∙ o))) (λ q. r .1 k q t) (newest (subst (λ (j : ℕ). k < j) (add-one l) z))
 
-pub kept-more : (a b : List ℕ) (l x : ℕ) → Kept l a b → Kept (l + 1) a (set b l x)
-kept-more a b l x r k h = getD-set-other b l k x 0 (λ w. omega arith) ∙ r k (omega arith)
+-- one word in every lane
+pub row-of : (x : ℕ) → Row lanesMax (λ l. x) (replicate lanesMax x)
+row-of x = (length-replicate lanesMax x, λ k h. getD-replicate lanesMax k x 0 h)
 
--- a write by choice: the new word where the lane is on, else the word that it had
-pub put-turn : (on : ℕ → Bool) (d : VReg) (f : ℕ → ℕ) (v : List ℕ) (l : ℕ) (u w : List ℕ) (t : Bool) (x : ℕ)
-    → t ≡ on l → x ≡ pick t (f l) (getD u (slotOf d l) 0) → w ≡ set u (slotOf d l) x → u ≡ writeLanes l on d f v → w ≡ writeLanes (l + 1) on d f v
-put-turn on d f v l u w true x e p q h = each-on on (λ k z. set z (slotOf d k) (f k)) v l u w (sym e) (q ∙ ap (set u (slotOf d l)) p) h
-put-turn on d f v l u w false x e p q h = each-off on (λ k z. set z (slotOf d k) (f k)) v l w (sym e) (q ∙ ap (set u (slotOf d l)) p ∙ set-getD u (slotOf d l) 0 ∙ h)
+-- ---- the file u when a loop has written its lanes below l into the file v
+module _ (on : ℕ → Bool) (d : VReg) (f : ℕ → ℕ) (v : List ℕ) where
+  abbrev pub Written : ℕ → List ℕ → Type 0
+  Written l u = (length u ≡ fileWords) × (u ≡ writeLanes l on d f v)
+
+  pub written-none : length v ≡ fileWords → Written 0 v
+  written-none e = (e, each-none on _ v)
+
+  pub written-on : (l : ℕ) (u : List ℕ) (i x : ℕ) → on l ≡ true → i ≡ slotOf d l → x ≡ f l → Written l u → Written (l + 1) (set u i x)
+  written-on l u i x t e q h = (length-set u i x ∙ h .0, each-on on (λ k w. set w (slotOf d k) (f k)) v l u (set u i x) t (ap₂ (set u) e q) (h .1))
+
+  pub written-off : (l : ℕ) (u : List ℕ) → on l ≡ false → Written l u → Written (l + 1) u
+  written-off l u t h = (h .0, each-off on _ v l u t (h .1))
+
+  -- by choice: the new word where the lane is on, else the word that it had
+  pub written-choice : (l : ℕ) (u : List ℕ) (i x : ℕ) (t : Bool) → t ≡ on l → i ≡ slotOf d l → x ≡ pick t (f l) (getD u i 0) → Written l u → Written (l + 1) (set u i x)
+  written-choice l u i x true o e q h = written-on l u i x (sym o) e q h
+  written-choice l u i x false o e q h = subst (Written (l + 1)) (sym (ap (set u i) q ∙ set-getD u i 0)) (written-off l u (sym o) h)
+
+  -- ended at its count
+  pub written-all : (l n : ℕ) (u : List ℕ) → l ≤ n → n ≤ l → Written l u → u ≡ writeLanes n on d f v
+  written-all l n u h k w = w .1 ∙ ap (λ (j : ℕ). writeLanes j on d f v) (le-antisymm h k)
+
+-- lanes that are off change nothing: the count may be any that has every lane that is on
+each-idle : {A : Type 0} (on : ℕ → Bool) (step : ℕ → A → A) (x : A) (n k : ℕ) → ((l : ℕ) → n ≤ l → on l ≡ false) → eachLane (k + n) on step x ≡ eachLane n on step x
+unfolding eachLane
+each-idle on step x n zero e =
+    let q : 0 + n ≡ n = omega arith in
+    ap (λ (m : ℕ). eachLane m on step x) q
+each-idle on step x n (suc k) e =
+    let q : suc k + n ≡ suc (k + n) = omega arith in
+    ap (λ (m : ℕ). eachLane m on step x) q
+    ∙ ap (λ (t : Bool). stepIf t (step (k + n)) (eachLane (k + n) on step x)) (e (k + n) (omega arith))
+    ∙ each-idle on step x n k e
+
+pub each-numt : {A : Type 0} (m n : ℕ) (step : ℕ → A → A) (x : A) → m < 2 ^ n → n ≤ lanesMax → eachLane lanesMax (bit m) step x ≡ eachLane n (bit m) step x
+each-numt m n step x h k =
+    let q : lanesMax ≡ (lanesMax - n) + n = omega arith in
+    ap (λ (j : ℕ). eachLane j (bit m) step x) q
+    ∙ each-idle (bit m) step x n (lanesMax - n) (λ l z. bit-above m n l h z)
 
 -- a lane more in a mask
 pub mask-turn : (on : ℕ → Bool) (l m w : ℕ) (t : Bool) → t ≡ on l → w ≡ maskStep t l m → m ≡ maskOf l on → w ≡ maskOf (l + 1) on
@@ -74,9 +110,9 @@ with-lane m l x true h k e = ap (bitOr m) (e ∙ one-shift l h ∙ sym (one-mul 
 with-lane m l x false h k e = ap (bitOr m) e ∙ or-zero-r m
 
 -- what `uniform` finds in two rows: register words in x, and in y the value that it took from x
-module _ (m n : ℕ) (hm : m < 2 ^ n) (f : ℕ → ℕ) (x y : List ℕ) (one : ℕ) (rx : Row n f x) (ry : Row n (λ l. one) y) (found : one ≡ valueOf n (bit m) (at x)) where
+module _ (m n : ℕ) (hm : m < 2 ^ n) (f : ℕ → ℕ) (x y : List ℕ) (one : ℕ) (rx : (l : ℕ) → l < n → at x l ≡ f l) (ry : (l : ℕ) → l < n → at y l ≡ one) (found : one ≡ valueOf n (bit m) (at x)) where
   pub uniform-value : one ≡ valueOf n (bit m) f
-  uniform-value = found ∙ value-only n (bit m) (at x) f (λ l h t. rx .1 l h)
+  uniform-value = found ∙ value-only n (bit m) (at x) f (λ l h t. rx l h)
 
   pub uniform-rows : (out : ℕ) → out ≡ maskOf n (holdsLane Ne x y) → eqb (bitAnd out m) 0 ≡ uniformOf n (bit m) f
   uniform-rows out e =
@@ -84,4 +120,4 @@ module _ (m n : ℕ) (hm : m < 2 ^ n) (f : ℕ → ℕ) (x y : List ℕ) (one : 
       ∙ ap (λ (o : ℕ). eqb o 0) (and-bits (holdsLane Ne x y) n m hm)
       ∙ mask-zero (λ l. bit m l && holdsLane Ne x y l) n
       ∙ all-same (λ l. not (bit m l && not (eqb (at x l) (at y l)))) (λ l. okIf (bit m l) (eqb (f l) (valueOf n (bit m) f))) n
-      (λ l h. ok-not (bit m l) (eqb (at x l) (at y l)) (eqb (f l) (valueOf n (bit m) f)) (ap₂ eqb (rx .1 l h) (ry .1 l h ∙ uniform-value)))
+      (λ l h. ok-not (bit m l) (eqb (at x l) (at y l)) (eqb (f l) (valueOf n (bit m) f)) (ap₂ eqb (rx l h) (ry l h ∙ uniform-value)))

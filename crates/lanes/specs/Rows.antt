@@ -2,7 +2,7 @@
 use mathlib.Core.Bool.{Bool, true}
 use mathlib.Core.Path.{_≡_}
 use mathlib.Core.List.{List}
-use Prim.Native.Nat.{ℕ, _+_, _^_, _<_, _≤_}
+use Prim.Native.Nat.{ℕ, _+_, _^_, _<_}
 use lib.ListN.{length, getD}
 use Rattle.word.specs.Word.{applyOf, holdsOf}
 use Rattle.word.specs.declared.Op.{Op}
@@ -20,10 +20,6 @@ Row n f a = (length a ≡ lanesMax) × ((k : ℕ) → k < n → at a k ≡ f k)
 -- the same in each lane that `on` picks
 abbrev pub RowOn : (ℕ → Bool) → ℕ → (ℕ → ℕ) → List ℕ → Type 0
 RowOn on n f a = (length a ≡ lanesMax) × ((k : ℕ) → k < n → on k ≡ true → at a k ≡ f k)
-
--- the lanes of b from l on are those of a
-abbrev pub Kept : ℕ → List ℕ → List ℕ → Type 0
-Kept l a b = (k : ℕ) → l ≤ k → at b k ≡ at a k
 
 -- what the operation gives in lane l of two rows, and whether the compare holds there
 abbrev pub mapLane : Op → List ℕ → List ℕ → ℕ → ℕ

@@ -3,12 +3,12 @@ use isa::VReg;
 use word::Cond;
 use word::Op;
 ghost use mathlib.Core.Path.{_≡_};
-ghost use Prim.Native.Nat.{_+_, _*_, _^_, _<_, _≤_};
+ghost use Prim.Native.Nat.{_^_, _<_, _≤_};
 ghost use lib.ListN.{length};
 ghost use Rattle.word.specs.Word.{pick};
 ghost use Rattle.lanes.specs.Mask.{bit};
 ghost use Rattle.lanes.specs.Lanes.{lanesMax, registers, fileWords, slotOf, laneOf, operandOf, OperandOk, opLane, writeLanes, maskOf, wantsOf, valueOf, uniformOf};
-ghost use Rattle.lanes.specs.Rows.{at, Row, RowOn, mapLane, holdsLane, maskStep};
+ghost use Rattle.lanes.specs.Rows.{at, Row, mapLane, holdsLane, maskStep};
 
 pub const LANES: usize = 32;
 
@@ -50,153 +50,146 @@ fn choose(t: bool, x: u32, y: u32) -> u32
     if t { x } else { y }
 }
 
-// Register r's lanes below n.
-pub fn get(v: &[u32], r: VReg, n: usize, a: &mut [u32; LANES])
-    requires { ⌜ (length (now v) ≡ fileWords) × ((r .0 < registers) × ((n ≤ lanesMax) × (length (now a) ≡ lanesMax))) ⌝ }
-    ensures { λ _. ⌜ Row n (laneOf (now (v .entry)) r) (now (a .exit)) ⌝ }
+// Register r's lanes as a row: by value and over all lanes, it is compiled to plain copies.
+fn row(v: &[u32], r: VReg) -> [u32; LANES]
+    requires { ⌜ (length (now v) ≡ fileWords) × (r .0 < registers) ⌝ }
+    ensures { λ a. ⌜ Row lanesMax (laneOf (now (v .entry)) r) a ⌝ }
 {
+    let mut a = [0u32; LANES];
     let mut l = 0;
-    while l < n {
+    while l < LANES {
         let i = slot(r, Lane(l));
         a[l] = v[i];
         l += 1;
     }
+    a
 }
 
-// One word in each lane below n.
-pub fn splat(x: u32, n: usize, a: &mut [u32; LANES])
-    requires { ⌜ (n ≤ lanesMax) × (length (now a) ≡ lanesMax) ⌝ }
-    ensures { λ _. ⌜ Row n (λ l. x) (now (a .exit)) ⌝ }
-{
-    let mut l = 0;
-    while l < n {
-        a[l] = x;
-        l += 1;
-    }
-}
-
-// The operand's lanes below n.
-pub fn get_operand(v: &[u32], b: Operand, n: usize, a: &mut [u32; LANES])
-    requires { ⌜ (length (now v) ≡ fileWords) × (OperandOk b × ((n ≤ lanesMax) × (length (now a) ≡ lanesMax))) ⌝ }
-    ensures { λ _. ⌜ Row n (operandOf (now (v .entry)) b) (now (a .exit)) ⌝ }
+// The operand's lanes as a row.
+fn operand_row(v: &[u32], b: Operand) -> [u32; LANES]
+    requires { ⌜ (length (now v) ≡ fileWords) × OperandOk b ⌝ }
+    ensures { λ a. ⌜ Row lanesMax (operandOf (now (v .entry)) b) a ⌝ }
 {
     match b {
-        Operand::Reg(r) => get(v, r, n, a),
-        Operand::Word(x) => splat(x, n, a),
+        Operand::Reg(r) => row(v, r),
+        Operand::Word(x) => [x; LANES],
     }
 }
 
-// The row into register d, in the lanes of the mask: both words are at hand, and one is chosen without a branch.
-pub fn put(v: &mut [u32], mask: u32, d: VReg, n: usize, a: &[u32; LANES])
+// Register r's lanes below n, into a row that is lent.
+pub fn get(v: &[u32], r: VReg, n: usize, a: &mut [u32; LANES])
+    requires { ⌜ (length (now v) ≡ fileWords) × ((r .0 < registers) × ((n ≤ lanesMax) × (length (now a) ≡ lanesMax))) ⌝ }
+    ensures { λ _. ⌜ Row n (laneOf (now (v .entry)) r) (now (a .exit)) ⌝ }
+{
+    *a = row(v, r);
+}
+
+// The one loop of every operation: both words are at hand and one is chosen without a branch, so it is compiled to vector code.
+fn map(op: Op, v: &mut [u32], mask: u32, d: VReg, n: usize, x: &[u32; LANES], y: &[u32; LANES])
     requires { ⌜ (length (now v) ≡ fileWords) × ((d .0 < registers) × (n ≤ lanesMax)) ⌝ }
-    ensures { λ _. ⌜ now (v .exit) ≡ writeLanes n (bit mask) d (at (now (a .entry))) (now (v .entry)) ⌝ }
+    ensures { λ _. ⌜ now (v .exit) ≡ writeLanes n (bit mask) d (mapLane op (now (x .entry)) (now (y .entry))) (now (v .entry)) ⌝ }
 {
     let mut l = 0;
     while l < n {
         let i = slot(d, Lane(l));
         let old = v[i];
-        let new = a[l];
+        let new = word::apply(op, x[l], y[l]);
         v[i] = choose(active(mask, Lane(l)), new, old);
         l += 1;
     }
 }
 
-// The one loop of every operation.
-fn map(op: Op, n: usize, a: &mut [u32; LANES], b: &[u32; LANES])
-    requires { ⌜ (n ≤ lanesMax) × (length (now a) ≡ lanesMax) ⌝ }
-    ensures { λ _. ⌜ Row n (mapLane op (now (a .entry)) (now (b .entry))) (now (a .exit)) ⌝ }
-{
-    let mut l = 0;
-    while l < n {
-        a[l] = word::apply(op, a[l], b[l]);
-        l += 1;
-    }
-}
-
 // The loop of a division, which has no vector code: in the lanes of the mask only.
-fn map_on(op: Op, mask: u32, n: usize, a: &mut [u32; LANES], b: &[u32; LANES])
-    requires { ⌜ (n ≤ lanesMax) × (length (now a) ≡ lanesMax) ⌝ }
-    ensures { λ _. ⌜ RowOn (bit mask) n (mapLane op (now (a .entry)) (now (b .entry))) (now (a .exit)) ⌝ }
+fn map_on(op: Op, v: &mut [u32], mask: u32, d: VReg, n: usize, x: &[u32; LANES], y: &[u32; LANES])
+    requires { ⌜ (length (now v) ≡ fileWords) × ((d .0 < registers) × (n ≤ lanesMax)) ⌝ }
+    ensures { λ _. ⌜ now (v .exit) ≡ writeLanes n (bit mask) d (mapLane op (now (x .entry)) (now (y .entry))) (now (v .entry)) ⌝ }
 {
     let mut l = 0;
     while l < n {
         if active(mask, Lane(l)) {
-            a[l] = word::apply(op, a[l], b[l]);
+            let i = slot(d, Lane(l));
+            v[i] = word::apply(op, x[l], y[l]);
         }
         l += 1;
     }
 }
 
-// The loop at an operation that is known, so that each arm is compiled to vector code of its own.
-fn map_op(op: Op, mask: u32, n: usize, a: &mut [u32; LANES], b: &[u32; LANES])
-    requires { ⌜ (n ≤ lanesMax) × (length (now a) ≡ lanesMax) ⌝ }
-    ensures { λ _. ⌜ RowOn (bit mask) n (mapLane op (now (a .entry)) (now (b .entry))) (now (a .exit)) ⌝ }
+// The loop at an operation that is known, so that each arm is compiled to code of its own.
+fn map_op(op: Op, v: &mut [u32], mask: u32, d: VReg, n: usize, x: &[u32; LANES], y: &[u32; LANES])
+    requires { ⌜ (length (now v) ≡ fileWords) × ((d .0 < registers) × (n ≤ lanesMax)) ⌝ }
+    ensures { λ _. ⌜ now (v .exit) ≡ writeLanes n (bit mask) d (mapLane op (now (x .entry)) (now (y .entry))) (now (v .entry)) ⌝ }
 {
     match op {
-        Op::Add => map(Op::Add, n, a, b),
-        Op::Sub => map(Op::Sub, n, a, b),
-        Op::Rsub => map(Op::Rsub, n, a, b),
-        Op::Sll => map(Op::Sll, n, a, b),
-        Op::Srl => map(Op::Srl, n, a, b),
-        Op::Sra => map(Op::Sra, n, a, b),
-        Op::Slt => map(Op::Slt, n, a, b),
-        Op::Sltu => map(Op::Sltu, n, a, b),
-        Op::And => map(Op::And, n, a, b),
-        Op::Or => map(Op::Or, n, a, b),
-        Op::Xor => map(Op::Xor, n, a, b),
-        Op::Mul => map(Op::Mul, n, a, b),
-        Op::Mulh => map(Op::Mulh, n, a, b),
-        Op::Mulhsu => map(Op::Mulhsu, n, a, b),
-        Op::Mulhu => map(Op::Mulhu, n, a, b),
-        Op::Div => map_on(Op::Div, mask, n, a, b),
-        Op::Divu => map_on(Op::Divu, mask, n, a, b),
-        Op::Rem => map_on(Op::Rem, mask, n, a, b),
-        Op::Remu => map_on(Op::Remu, mask, n, a, b),
-        Op::Min => map(Op::Min, n, a, b),
-        Op::Minu => map(Op::Minu, n, a, b),
-        Op::Max => map(Op::Max, n, a, b),
-        Op::Maxu => map(Op::Maxu, n, a, b),
-        Op::Seq => map(Op::Seq, n, a, b),
-        Op::Sne => map(Op::Sne, n, a, b),
-        Op::Sle => map(Op::Sle, n, a, b),
-        Op::Sleu => map(Op::Sleu, n, a, b),
-        Op::Sgt => map(Op::Sgt, n, a, b),
-        Op::Sgtu => map(Op::Sgtu, n, a, b),
-        Op::Move => map(Op::Move, n, a, b),
+        Op::Add => map(Op::Add, v, mask, d, n, x, y),
+        Op::Sub => map(Op::Sub, v, mask, d, n, x, y),
+        Op::Rsub => map(Op::Rsub, v, mask, d, n, x, y),
+        Op::Sll => map(Op::Sll, v, mask, d, n, x, y),
+        Op::Srl => map(Op::Srl, v, mask, d, n, x, y),
+        Op::Sra => map(Op::Sra, v, mask, d, n, x, y),
+        Op::Slt => map(Op::Slt, v, mask, d, n, x, y),
+        Op::Sltu => map(Op::Sltu, v, mask, d, n, x, y),
+        Op::And => map(Op::And, v, mask, d, n, x, y),
+        Op::Or => map(Op::Or, v, mask, d, n, x, y),
+        Op::Xor => map(Op::Xor, v, mask, d, n, x, y),
+        Op::Mul => map(Op::Mul, v, mask, d, n, x, y),
+        Op::Mulh => map(Op::Mulh, v, mask, d, n, x, y),
+        Op::Mulhsu => map(Op::Mulhsu, v, mask, d, n, x, y),
+        Op::Mulhu => map(Op::Mulhu, v, mask, d, n, x, y),
+        Op::Div => map_on(Op::Div, v, mask, d, n, x, y),
+        Op::Divu => map_on(Op::Divu, v, mask, d, n, x, y),
+        Op::Rem => map_on(Op::Rem, v, mask, d, n, x, y),
+        Op::Remu => map_on(Op::Remu, v, mask, d, n, x, y),
+        Op::Min => map(Op::Min, v, mask, d, n, x, y),
+        Op::Minu => map(Op::Minu, v, mask, d, n, x, y),
+        Op::Max => map(Op::Max, v, mask, d, n, x, y),
+        Op::Maxu => map(Op::Maxu, v, mask, d, n, x, y),
+        Op::Seq => map(Op::Seq, v, mask, d, n, x, y),
+        Op::Sne => map(Op::Sne, v, mask, d, n, x, y),
+        Op::Sle => map(Op::Sle, v, mask, d, n, x, y),
+        Op::Sleu => map(Op::Sleu, v, mask, d, n, x, y),
+        Op::Sgt => map(Op::Sgt, v, mask, d, n, x, y),
+        Op::Sgtu => map(Op::Sgtu, v, mask, d, n, x, y),
+        Op::Move => map(Op::Move, v, mask, d, n, x, y),
     }
 }
 
-// The operation into register d, in each lane of the mask.
+// The row into register d, in each lane of the mask below n.
+pub fn put(v: &mut [u32], mask: u32, d: VReg, n: usize, a: &[u32; LANES])
+    requires { ⌜ (length (now v) ≡ fileWords) × ((d .0 < registers) × (n ≤ lanesMax)) ⌝ }
+    ensures { λ _. ⌜ now (v .exit) ≡ writeLanes n (bit mask) d (at (now (a .entry))) (now (v .entry)) ⌝ }
+{
+    map(Op::Move, v, mask, d, n, a, a)
+}
+
+// The operation into register d, in each lane of the mask. A constant count is faster, and no lane from n on is in the mask.
 pub fn op_lanes(v: &mut [u32], mask: u32, n: usize, op: Op, d: VReg, a: VReg, b: Operand)
-    requires { ⌜ (length (now v) ≡ fileWords) × ((d .0 < registers) × ((a .0 < registers) × (OperandOk b × (n ≤ lanesMax)))) ⌝ }
+    requires { ⌜ (length (now v) ≡ fileWords) × ((d .0 < registers) × ((a .0 < registers) × (OperandOk b × ((n ≤ lanesMax) × (mask < 2 ^ n))))) ⌝ }
     ensures { λ _. ⌜ now (v .exit) ≡ writeLanes n (bit mask) d (opLane op (now (v .entry)) a b) (now (v .entry)) ⌝ }
 {
-    let mut x = [0u32; LANES];
-    let mut y = [0u32; LANES];
-    get(v, a, n, &mut x);
-    get_operand(v, b, n, &mut y);
-    map_op(op, mask, n, &mut x, &y);
-    put(v, mask, d, n, &x);
+    let x = row(v, a);
+    let y = operand_row(v, b);
+    map_op(op, v, mask, d, LANES, &x, &y);
 }
 
 // vmv.v and vmv.s.x: the operand into register d, in each lane of the mask.
 pub fn move_lanes(v: &mut [u32], mask: u32, n: usize, d: VReg, b: Operand)
-    requires { ⌜ (length (now v) ≡ fileWords) × ((d .0 < registers) × (OperandOk b × (n ≤ lanesMax))) ⌝ }
+    requires { ⌜ (length (now v) ≡ fileWords) × ((d .0 < registers) × (OperandOk b × ((n ≤ lanesMax) × (mask < 2 ^ n)))) ⌝ }
     ensures { λ _. ⌜ now (v .exit) ≡ writeLanes n (bit mask) d (operandOf (now (v .entry)) b) (now (v .entry)) ⌝ }
 {
     op_lanes(v, mask, n, Op::Move, d, d, b)
 }
 
-// Each lane's own number below n.
-fn count(n: usize, a: &mut [u32; LANES])
-    requires { ⌜ (n ≤ lanesMax) × (length (now a) ≡ lanesMax) ⌝ }
-    ensures { λ _. ⌜ Row n (λ l. l) (now (a .exit)) ⌝ }
+// Each lane's own number.
+fn count() -> [u32; LANES]
+    ensures { λ a. ⌜ Row lanesMax (λ l. l) a ⌝ }
 {
+    let mut a = [0u32; LANES];
     let mut l = 0;
-    while l < n {
+    while l < LANES {
         a[l] = l as u32;
         l += 1;
     }
+    a
 }
 
 // vid.v: the lane's number into register d, in each lane of the mask.
@@ -204,8 +197,7 @@ pub fn id_lanes(v: &mut [u32], mask: u32, n: usize, d: VReg)
     requires { ⌜ (length (now v) ≡ fileWords) × ((d .0 < registers) × (n ≤ lanesMax)) ⌝ }
     ensures { λ _. ⌜ now (v .exit) ≡ writeLanes n (bit mask) d (λ l. l) (now (v .entry)) ⌝ }
 {
-    let mut x = [0u32; LANES];
-    count(n, &mut x);
+    let x = count();
     put(v, mask, d, n, &x);
 }
 
@@ -251,10 +243,8 @@ pub fn else_mask(v: &[u32], mask: u32, n: usize, c: Cond, a: VReg, b: VReg) -> u
     requires { ⌜ (length (now v) ≡ fileWords) × ((a .0 < registers) × ((b .0 < registers) × ((n ≤ lanesMax) × (mask < 2 ^ n)))) ⌝ }
     ensures { λ r. ⌜ r ≡ maskOf n (wantsOf (now (v .entry)) mask c a b) ⌝ }
 {
-    let mut x = [0u32; LANES];
-    let mut y = [0u32; LANES];
-    get(v, a, n, &mut x);
-    get(v, b, n, &mut y);
+    let x = row(v, a);
+    let y = row(v, b);
     hold_op(c, n, &x, &y) & mask
 }
 
@@ -284,11 +274,9 @@ pub fn uniform(v: &[u32], mask: u32, n: usize, a: VReg) -> Shared
     requires { ⌜ (length (now v) ≡ fileWords) × ((a .0 < registers) × ((n ≤ lanesMax) × (mask < 2 ^ n))) ⌝ }
     ensures { λ r. ⌜ (r .uniform ≡ uniformOf n (bit mask) (laneOf (now (v .entry)) a)) × (r .value ≡ valueOf n (bit mask) (laneOf (now (v .entry)) a)) ⌝ }
 {
-    let mut x = [0u32; LANES];
-    let mut y = [0u32; LANES];
-    get(v, a, n, &mut x);
+    let x = row(v, a);
     let one = value(mask, n, &x);
-    splat(one, n, &mut y);
+    let y = [one; LANES];
     Shared {
         uniform: hold(Cond::Ne, n, &x, &y) & mask == 0,
         value: one,

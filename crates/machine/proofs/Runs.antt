@@ -1,182 +1,162 @@
 -- From steps on the lent words to a run of the warp.
-use Prim.Native.Nat.{ℕ, suc, _+_, _-_, _≤_, _<_}
+use Prim.Native.Nat.{ℕ, _+_, _-_, _≤_, _<_}
 use mathlib.Core.Path.{_≡_, refl, sym, ap, _∙_, subst}
-use mathlib.Core.Bool.{Bool, true, false, cond}
+use mathlib.Core.Bool.{Bool, true, false, _&&_, true≢false}
 use mathlib.Core.List.{List}
 use native.Mathlib.Omega.{arith}
 use native.Mathlib.Nat.{sub-zero}
-use lib.Dec.{eqb, lit≤}
-use lib.ListN.{length, replicate}
-use borrow.Author.Tests.{eq-eqb, ne-eqb, eqb-true, eqb-false}
-use Rattle.lanes.specs.Lanes.{fileWords}
-use Rattle.warp.specs.declared.Launch.{Launch}
+use lib.Dec.{lit≤}
+use lib.ListN.{length}
+use Rattle.answer.specs.Answer.{lastNumber}
+use Rattle.answer.proofs.Rows.{both}
 use Rattle.warp.specs.declared.Warp.{Warp}
-use Rattle.warp.specs.Warp.{splitCount, zeroWarp, answer, withStop}
-use Rattle.warp.specs.WellFormed.{launchOkOf, wellFormedOf}
-use Rattle.warp.specs.Formed.{Formed, formed}
-use Rattle.hot.specs.Hot.{warpOf, hotOf, fixedWords, Flat}
-use Rattle.hot.proofs.FlatSplits.{splits-length}
-use Rattle.hot.specs.HotLaws.{apart, lent}
-use Rattle.definition.specs.Outcome.{Outcome, outcome}
-use Rattle.definition.specs.Step.{runsOkOf, stepOf}
-use Rattle.definition.specs.Calls.{launchedOf, launchOf, Ran, ran, stepsOf, runOf, releaseOf}
-use Rattle.definition.proofs.Tests.{step-runs, step-malformed}
-use Rattle.definition.proofs.Steps.{StepOk, step-ok}
-use Rattle.exec.specs.Steps.{Steps, Started}
-use Rattle.machine.specs.Drives.{Drives}
+use Rattle.warp.specs.Warp.{splitCount}
+use Rattle.warp.specs.WellFormed.{wellFormedOf}
+use Rattle.warp.specs.Formed.{Formed}
+use Rattle.running.specs.Words.{movingCount, flatCount, fixedIn, warpOf, soundOf, splitsWords, movingWords, fixedWords}
+use Rattle.running.proofs.Words.{apart, apart-sound, lent-words}
+use Rattle.definition.specs.State.{State, state, Outcome, outcome, instrAt}
+use Rattle.definition.specs.Refuse.{runsOkOf}
+use Rattle.definition.specs.Step.{stepOf}
+use Rattle.definition.specs.Calls.{Ran, ran, stepsOf, runOf}
+use Rattle.definition.proofs.Tests.{step-known}
+use Rattle.definition.proofs.Sound.{step-sound}
+use Rattle.definition.proofs.Sizes.{sizes-kept}
+use Rattle.definition.proofs.Target.{Within, targetOf, step-within}
+use Rattle.definition.proofs.Calls.{steps-end, steps-on, steps-stop, run-size, run-malformed, run-steps, run-one}
+use Rattle.exec.specs.Steps.{Lists, lists, warpIn, stateIn, Steps, Started}
+use Rattle.machine.specs.Drives.{Drives, runWordsOf, RunsWords}
 
 -- ---- the loop
 
--- what holds at each turn: t steps are taken, and the rest of the run from here is the run from the start
-pub record Going (k : List ℕ) (n : ℕ) (g h₀ x₀ s₀ v₀ d₀ h x s v d : List ℕ) (t : ℕ) : Type 0 where
+-- what holds at each turn, from the lists a to the lists b: t steps are taken, and the rest of the run from here is the run from the start
+pub record Going (k : List ℕ) (n : ℕ) (a b : Lists) (t : ℕ) : Type 0 where
   pub few : t ≤ n
-  pub started : Started k g h x s v d
-  pub vector : length v ≡ length v₀
-  pub bytes : length d ≡ length d₀
-  pub goes : stepsOf k n 0 (warpOf g h₀ x₀ s₀) v₀ d₀ ≡ stepsOf k (n - t) t (warpOf g h x s) v d
+  pub started : Started k b
+  pub vector : length (b .vector) ≡ length (a .vector)
+  pub bytes : length (b .bytes) ≡ length (a .bytes)
+  pub goes : stepsOf k n 0 (stateIn a) ≡ stepsOf k (n - t) t (stateIn b)
 
-pub going-start : (k : List ℕ) (n : ℕ) (g h x s v d : List ℕ) → Started k g h x s v d → Going k n g h x s v d h x s v d 0
-going-start k n g h x s v d r = record { few = omega arith; started = r; vector = refl; bytes = refl; goes = rw sub-zero }
+pub going-start : (k : List ℕ) (n : ℕ) (a : Lists) → Started k a → Going k n a a 0
+going-start k n a r = record { few = omega arith; started = r; vector = refl; bytes = refl; goes = rw sub-zero }
 
 -- a step from such a turn
-module _ (k : List ℕ) (n : ℕ) (g h₀ x₀ s₀ v₀ d₀ h x s v d : List ℕ) (t : ℕ) (r : Going k n g h₀ x₀ s₀ v₀ d₀ h x s v d t) (l : t < n)
-    (c : ℕ) (h' x' s' v' d' : List ℕ) (q : Steps (stepOf k) c g h x s v d h' x' s' v' d') where
-  ok : StepOk (warpOf g h x s) v d (stepOf k (warpOf g h x s) v d)
-  ok = step-ok k (warpOf g h x s) v d (r .started .lent .formed .long)
-
-  code-is : stepOf k (warpOf g h x s) v d .code ≡ c
+module _ (k : List ℕ) (n : ℕ) (a b : Lists) (t : ℕ) (r : Going k n a b t) (l : t < n) (c : ℕ) (b' : Lists) (q : Steps (stepOf k) c b b') where
+  code-is : stepOf k (stateIn b) .code ≡ c
   code-is = ap (λ (o : Outcome). o .code) (sym (q .goes))
 
-  more : n - t ≡ suc (n - (t + 1))
-  more = omega arith
+  left-is : stepOf k (stateIn b) .left ≡ stateIn b'
+  left-is = ap (λ (o : Outcome). o .left) (sym (q .goes))
 
-  vector-is : length v' ≡ length v
-  vector-is = ap (λ (o : Outcome). length (o .vector)) (q .goes) ∙ ok .vector
+  within : Within (stateIn b) (targetOf (instrAt k (stateIn b)) (stateIn b)) (stateIn b')
+  within = subst (Within (stateIn b) (targetOf (instrAt k (stateIn b)) (stateIn b))) left-is (step-within k (stateIn b))
 
-  bytes-is : length d' ≡ length d
-  bytes-is = ap (λ (o : Outcome). length (o .bytes)) (q .goes) ∙ ok .bytes
+  fixed-is : fixedIn (b' .fixed) ≡ fixedIn (b .fixed)
+  unfolding warpOf
+  fixed-is = within .fixed
 
-  steps-on : c ≡ 0 → stepsOf k (n - t) t (warpOf g h x s) v d ≡ stepsOf k (n - (t + 1)) (t + 1) (warpOf g h' x' s') v' d'
-  unfolding stepsOf
-  steps-on z = rw (more, ← q .goes, eq-eqb c 0 z)
+  keeps-sound : soundOf (b' .moving) (b' .splits) ≡ true
+  keeps-sound = q .sound (r .started .lent .sound)
 
-  pub going-on : c ≡ 0 → Going k n g h₀ x₀ s₀ v₀ d₀ h' x' s' v' d' (t + 1)
+  pub step-lengths : (length (b' .vector) ≡ length (a .vector)) × (length (b' .bytes) ≡ length (a .bytes))
+  step-lengths = (within .words ∙ r .vector, within .size ∙ r .bytes)
+
+  pub going-on : c ≡ 0 → Going k n a b' (t + 1)
   going-on z =
+      let done : stepOf k (stateIn b) .code ≡ 0 = code-is ∙ z in
       record {
         few = omega arith;
         started = record {
-          lent = record { long = q .long; room = q .room; formed = subst Formed (ap (λ (o : Outcome). o .warp) (sym (q .goes))) (ok .taken (code-is ∙ z)) };
-          sizes = rw (vector-is, bytes-is) (r .started .sizes);
+          lent = record {
+            long = q .long;
+            room = q .room;
+            formed = subst (λ (m : State). Formed (m .warp)) left-is (step-sound k (stateIn b) done (r .started .lent .formed .long) .formed);
+            sound = keeps-sound;
+          };
+          sizes = rw fixed-is (sizes-kept _ k (b .vector) (b .bytes) (b' .vector) (b' .bytes) (within .words) (within .size) ∙ r .started .sizes);
         };
-        vector = vector-is ∙ r .vector;
-        bytes = bytes-is ∙ r .bytes;
-        goes = r .goes ∙ steps-on z;
+        vector = step-lengths .0;
+        bytes = step-lengths .1;
+        goes = r .goes ∙ steps-on k n t (stateIn b) l done ∙ ap (stepsOf k (n - (t + 1)) (t + 1)) left-is;
       }
 
-  module _ (z : c ≡ 0 → ⊥) where
-    kept : outcome c (warpOf g h x s) v d ≡ outcome c (warpOf g h' x' s') v' d'
-    kept = ap (λ (i : ℕ). outcome i (warpOf g h x s) v d) (sym code-is) ∙ sym (ok .keeps (λ e. z (sym code-is ∙ e))) ∙ sym (q .goes)
+  pub drives-stop : (c ≡ 0 → ⊥) → Drives k n c t a b'
+  drives-stop z =
+      record {
+        known = omega (arith, step-known k (stateIn b), code-is);
+        long = q .long;
+        room = q .room;
+        sound = keeps-sound;
+        drives = sym (r .goes ∙ steps-stop k n t (stateIn b) l (λ e. z (sym code-is ∙ e)) ∙ ap (ran t) (sym (q .goes)));
+      }
 
-    steps-stop : stepsOf k (n - t) t (warpOf g h x s) v d ≡ ran t (outcome c (warpOf g h' x' s') v' d')
-    unfolding stepsOf
-    steps-stop = rw (more, ← q .goes, ne-eqb c 0 z) (ap (ran t) kept)
+pub drives-end : (k : List ℕ) (n : ℕ) (a b : Lists) (t c : ℕ) → Going k n a b t → c ≡ 0 → n ≤ t → Drives k n c t a b
+drives-end k n a b t c r z l =
+    let w = r .started .lent in
+    rw z (record { known = lit≤ tt; long = w .long; room = w .room; sound = w .sound; drives = sym (r .goes ∙ steps-end k n t (stateIn b) l) })
 
-    pub drives-stop : Drives k n c t g h₀ x₀ s₀ v₀ d₀ h' x' s' v' d'
-    drives-stop = record { known = omega (arith, ok .known, code-is); drives = sym (r .goes ∙ steps-stop) }
+-- ---- a run of the words
 
-    pub stop-lengths : (length v' ≡ length v₀) × (length d' ≡ length d₀)
-    stop-lengths = (vector-is ∙ r .vector, bytes-is ∙ r .bytes)
+-- of a warp's words it is the warp's
+pub run-sound : (k : List ℕ) (n : ℕ) (a : Lists) → soundOf (a .moving) (a .splits) ≡ true → runWordsOf k n a ≡ runOf k n (stateIn a)
+unfolding runWordsOf
+run-sound k n a o = rw o
 
-steps-end : (k : List ℕ) (n t : ℕ) (w : Warp) (v d : List ℕ) → n ≤ t → stepsOf k (n - t) t w v d ≡ ran t (outcome 0 w v d)
-unfolding stepsOf
-steps-end k n t w v d h = let m : n - t ≡ 0 = omega arith in rw m
+module _ (k : List ℕ) (n : ℕ) (a : Lists) (lh : length (a .moving) ≡ movingCount) (ls : length (a .splits) ≡ flatCount) where
+  refused : (c : ℕ) → c ≤ lastNumber → ran 0 (outcome c (stateIn a)) ≡ runWordsOf k n a → RunsWords k n c 0 a a
+  refused c h e = record { known = h; long = lh; room = ls; sound = λ o. o; kept = λ o. refl; runs = e }
 
-pub drives-end : (k : List ℕ) (n : ℕ) (g h₀ x₀ s₀ v₀ d₀ h x s v d : List ℕ) (t : ℕ) → Going k n g h₀ x₀ s₀ v₀ d₀ h x s v d t → n ≤ t → Drives k n 0 t g h₀ x₀ s₀ v₀ d₀ h x s v d
-drives-end k n g h₀ x₀ s₀ v₀ d₀ h x s v d t r l = record { known = lit≤ tt; drives = sym (r .goes ∙ steps-end k n t (warpOf g h x s) v d l) }
+  pub words-size : runsOkOf (fixedIn (a .fixed)) k (a .vector) (a .bytes) ≡ false → RunsWords k n 1 0 a a
+  unfolding runWordsOf warpOf
+  words-size e = refused 1 (lit≤ tt) (by (soundOf (a .moving) (a .splits)) refl)
+    where
+      by : (o : Bool) → soundOf (a .moving) (a .splits) ≡ o → ran 0 (outcome 1 (stateIn a)) ≡ runWordsOf k n a
+      by true o = rw o (sym (run-size k n (stateIn a) e))
+      by false o = rw (o, e)
 
--- ---- a run
+  module _ (e : runsOkOf (fixedIn (a .fixed)) k (a .vector) (a .bytes) ≡ true) where
+    pub words-malformed : (soundOf (a .moving) (a .splits) && wellFormedOf (warpIn a)) ≡ false → RunsWords k n 2 0 a a
+    unfolding runWordsOf warpOf
+    words-malformed f = refused 2 (lit≤ tt) (by (soundOf (a .moving) (a .splits)) refl f)
+      where
+        by : (o : Bool) → soundOf (a .moving) (a .splits) ≡ o → (o && wellFormedOf (warpIn a)) ≡ false → ran 0 (outcome 2 (stateIn a)) ≡ runWordsOf k n a
+        by true o f = rw o (sym (run-malformed k n (stateIn a) e f))
+        by false o f = rw (o, e)
 
-module _ (k : List ℕ) (n : ℕ) (w : Warp) (v d : List ℕ) where
-  pub run-size : runsOkOf (w .fixed) (length k) (length v) (length d) ≡ false → ran 0 (outcome 1 w v d) ≡ runOf k n w v d
-  unfolding runOf
-  run-size a = rw a
+    module _ (f : (soundOf (a .moving) (a .splits) && wellFormedOf (warpIn a)) ≡ true) where
+      pub words-started : Started k a
+      words-started =
+          let p = both _ _ f in
+          record { lent = lent-words (a .fixed) (a .moving) (a .scalars) (a .splits) lh ls (p .0) (p .1); sizes = e }
 
-  module _ (a : runsOkOf (w .fixed) (length k) (length v) (length d) ≡ true) where
-    pub run-malformed : wellFormedOf w ≡ false → ran 0 (outcome 2 w v d) ≡ runOf k n w v d
-    unfolding runOf
-    run-malformed b = rw (a, b)
+      pub words-run : (c t : ℕ) (b : Lists) → Drives k n c t a b → RunsWords k n c t a b
+      unfolding warpOf
+      words-run c t b q =
+          let p = both _ _ f in
+          record {
+            known = q .known;
+            long = q .long;
+            room = q .room;
+            sound = λ o. q .sound;
+            kept = λ o. absurd (true≢false (sym (p .0) ∙ o));
+            runs = q .drives ∙ sym (run-sound k n a (p .0) ∙ run-steps k n (stateIn a) e (p .1));
+          }
 
-    pub run-steps : wellFormedOf w ≡ true → runOf k n w v d ≡ stepsOf k n 0 w v d
-    unfolding runOf
-    run-steps b = rw (a, b)
+-- ---- a run of the warp
 
-    -- the warp taken apart
-    module _ (b : wellFormedOf w ≡ true) (g h s : List ℕ) (eg : g ≡ fixedWords (w .fixed)) (eh : h ≡ hotOf w) (fl : Flat (w .splits) s) where
-      stands : warpOf g h (w .x) s ≡ w
-      stands = rw (eg, eh) (apart w s fl)
+-- the warp taken apart
+module _ (w : Warp) (long : length (w .splits) ≡ splitCount) (deep : w .depth ≤ splitCount)
+    (g h s : List ℕ) (eg : g ≡ fixedWords (w .fixed)) (eh : h ≡ movingWords w) (es : s ≡ splitsWords (w .splits)) where
+  stands : warpOf g h (w .x) s ≡ w
+  stands = rw (eg, eh, es) (apart w long)
 
-      pub run-started : Started k g h (w .x) s v d
-      run-started = record { lent = rw (eg, eh) (lent w s fl (formed w (sym (ap length (fl .are)) ∙ splits-length s 0 splitCount) b)); sizes = rw eg a }
+  sound : soundOf h s ≡ true
+  sound = rw (eh, es) (apart-sound w long deep)
 
-      pub run-goes : (c t : ℕ) (u : Warp) (h' x' s' v' d' : List ℕ) → Drives k n c t g h (w .x) s v d h' x' s' v' d' → u ≡ warpOf g h' x' s' → ran t (outcome c u v' d') ≡ runOf k n w v d
-      run-goes c t u h' x' s' v' d' q e = rw (e, run-steps b) (q .drives ∙ ap (λ (y : Warp). stepsOf k n 0 y v d) stands)
+  pub run-goes : (k : List ℕ) (n c t : ℕ) (v d : List ℕ) (u : Warp) (b : Lists) → RunsWords k n c t (lists g h (w .x) s v d) b → u ≡ warpIn b
+      → ran t (outcome c (state u (b .vector) (b .bytes))) ≡ runOf k n (state w v d)
+  run-goes k n c t v d u b q e = rw e (q .runs ∙ run-sound k n (lists g h (w .x) s v d) sound ∙ ap (λ (y : Warp). runOf k n (state y v d)) stands)
 
--- ---- a run of one step is a step
-
-module _ (k : List ℕ) (w : Warp) (v d : List ℕ) (long : length (w .splits) ≡ splitCount) where
-  as-step : (t : Bool) → eqb (stepOf k w v d .code) 0 ≡ t
-      → cond t (ran 1 (outcome 0 (stepOf k w v d .warp) (stepOf k w v d .vector) (stepOf k w v d .bytes))) (ran 0 (outcome (stepOf k w v d .code) w v d)) .left ≡ stepOf k w v d
-  as-step true e = ap (λ (c : ℕ). outcome c (stepOf k w v d .warp) (stepOf k w v d .vector) (stepOf k w v d .bytes)) (sym (eqb-true _ _ e))
-  as-step false e = sym (step-ok k w v d long .keeps (eqb-false _ _ e))
-
-  steps-one : stepsOf k 1 0 w v d .left ≡ stepOf k w v d
-  unfolding stepsOf
-  steps-one = as-step (eqb (stepOf k w v d .code) 0) refl
-
-  run-one : (a b : Bool) → runsOkOf (w .fixed) (length k) (length v) (length d) ≡ a → wellFormedOf w ≡ b → runOf k 1 w v d .left ≡ stepOf k w v d
-  run-one false b p q = ap (λ (r : Ran). r .left) (sym (run-size k 1 w v d p)) ∙ sym (step-runs k w v d p)
-  run-one true false p q = ap (λ (r : Ran). r .left) (sym (run-malformed k 1 w v d p q)) ∙ sym (step-malformed k w v d p q)
-  run-one true true p q = ap (λ (r : Ran). r .left) (run-steps k 1 w v d p q) ∙ steps-one
-
-  pub one-step : (t c : ℕ) (u : Warp) (v' d' : List ℕ) → ran t (outcome c u v' d') ≡ runOf k 1 w v d → outcome c u v' d' ≡ stepOf k w v d
-  one-step t c u v' d' e = ap (λ (r : Ran). r .left) e ∙ run-one (runsOkOf (w .fixed) (length k) (length v) (length d)) (wellFormedOf w) refl refl
-
--- ---- a launch
-
-module _ (k : List ℕ) (l : Launch) (v d : List ℕ) where
-  pub launch-size : runsOkOf (l .fixed) (length k) (length v) (length d) ≡ false → outcome 1 zeroWarp v d ≡ launchOf k l v d
-  unfolding launchOf
-  launch-size a = rw a
-
-  module _ (a : runsOkOf (l .fixed) (length k) (length v) (length d) ≡ true) where
-    pub launch-range : launchOkOf l ≡ false → outcome 1 zeroWarp v d ≡ launchOf k l v d
-    unfolding launchOf
-    launch-range b = rw (a, b)
-
-    pub launch-done : launchOkOf l ≡ true → outcome 0 (launchedOf l) (replicate fileWords 0) d ≡ launchOf k l v d
-    unfolding launchOf
-    launch-done b = rw (a, b)
-
--- ---- a release
-
-module _ (w : Warp) where
-  pub release-malformed : wellFormedOf w ≡ false → answer 2 w ≡ releaseOf w
-  unfolding releaseOf
-  release-malformed f = rw f
-
-  pub release-runs : wellFormedOf w ≡ true → w .waiting ≡ false → answer 12 w ≡ releaseOf w
-  unfolding releaseOf
-  release-runs f b = rw (f, b)
-
-  pub release-waits : wellFormedOf w ≡ true → w .waiting ≡ true → answer 0 (withStop false false w) ≡ releaseOf w
-  unfolding releaseOf
-  release-waits f b = rw (f, b)
-
--- ---- small laws
-
--- past one more number
-pub past : {k n : ℕ} → k ≤ n → (n ≡ k → ⊥) → suc k ≤ n
-past l z = omega arith
-
-pub eleven : (n : ℕ) → n ≤ 11 → 11 ≤ n → 11 ≡ n
-eleven n h l = omega arith
+-- a run of one step is a step
+pub one-step : (k : List ℕ) (m : State) (t : ℕ) (o : Outcome) → ran t o ≡ runOf k 1 m → o ≡ stepOf k m
+one-step k m t o e = ap (λ (r : Ran). r .ends) e ∙ run-one k m

@@ -1,8 +1,10 @@
--- The address of lane l's access: register r's word in that lane and an offset, the raw field of the instruction.
+-- The address of an access: a register's word and an offset, the raw field of the instruction.
 use mathlib.Core.List.{List}
 use Prim.Native.Nat.{ℕ, _+_, _*_, _%_, _^_}
 use Rattle.word.specs.Word.{addOf, extendOf}
 use Rattle.isa.specs.declared.VReg.{VReg}
+use Rattle.isa.specs.declared.Space.{Space}
+use Rattle.isa.specs.declared.Space.the-variants as space
 use Rattle.lanes.specs.Lanes.{laneOf}
 use Rattle.memory.specs.declared.Private.{Private}
 
@@ -10,16 +12,20 @@ use Rattle.memory.specs.declared.Private.{Private}
 abbrev pub plainOf : ℕ → ℕ → ℕ
 plainOf x off = addOf x (extendOf 12 off)
 
-abbrev pub plainAt : List ℕ → VReg → ℕ → ℕ → ℕ
-plainAt v r off l = plainOf (laneOf v r l) off
-
--- TID: the number of the warp's first thread in its group
-abbrev pub tidOf : ℕ → ℕ → ℕ
-tidOf wid numt = wid * numt
-
--- the private rule: (x + offset)·(NUMW·NUMT) + (TID + lane) + PDS, wrapping; the offset has 11 bits and a sign
+-- the private rule, for lane l: (x + offset)·(NUMW·NUMT) + (TID + lane) + PDS, wrapping; the offset has 11 bits and a sign
 abbrev pub privateOf : Private → ℕ → ℕ → ℕ → ℕ
-privateOf p x off l = ((x + extendOf 11 off) * (p .numw * p .numt) + (tidOf (p .wid) (p .numt) + l) + p .pds) % 2 ^ 32
+privateOf p x off l = ((x + extendOf 11 off) * (p .numw * p .numt) + (p .tid + l) + p .pds) % 2 ^ 32
 
-abbrev pub privateAt : Private → List ℕ → VReg → ℕ → ℕ → ℕ
-privateAt p v r off l = privateOf p (laneOf v r l) off l
+-- where lane l's access goes
+abbrev pub addressOf : Space → Private → ℕ → ℕ → ℕ → ℕ
+addressOf space.Plain p x off l = plainOf x off
+addressOf space.Private p x off l = privateOf p x off l
+
+-- the same with the word that lane l has in register r
+abbrev pub laneAddress : Space → Private → List ℕ → VReg → ℕ → ℕ → ℕ
+laneAddress s p v r off l = addressOf s p (laneOf v r l) off l
+
+-- what an offset's raw field is below
+abbrev pub offsetLimit : Space → ℕ
+offsetLimit space.Plain = 2 ^ 12
+offsetLimit space.Private = 2 ^ 11

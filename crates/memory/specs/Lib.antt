@@ -3,5 +3,3 @@ pub mod Memory
 pub mod Address
 pub mod LaneAccess
 pub mod Cases
-pub mod Laws
-pub mod Rows

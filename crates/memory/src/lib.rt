@@ -1,21 +1,24 @@
 // Data memory: little-endian accesses of scalars and of lanes.
 use isa::LoadOp;
+use isa::Space;
 use isa::StoreOp;
 use isa::VReg;
+use lanes::LANES;
 use lanes::Lane;
 ghost use mathlib.Core.Path.{_≡_};
+ghost use mathlib.Core.Bool.{true, not, cond};
 ghost use Prim.Native.Nat.{_+_, _-_, _^_, _<_, _≤_};
 ghost use lib.ListN.{length};
 ghost use lib.Seq.{sets};
-ghost use Rattle.word.specs.Word.{subOf};
+ghost use Rattle.isa.specs.declared.Space.the-variants as spaces;
 ghost use Rattle.lanes.specs.Mask.{bit};
-ghost use Rattle.lanes.specs.Lanes.{lanesMax, registers, fileWords, laneOf, maskOf};
+ghost use Rattle.lanes.specs.Lanes.{lanesMax, registers, fileWords, laneOf, writeLanes, maskOf};
 ghost use Rattle.lanes.specs.Rows.{at, Row, RowOn};
 ghost use Rattle.memory.specs.Bytes.{leAt, leBytes};
-ghost use Rattle.memory.specs.Memory.{dataLimit, DataOk, sizeOf, widthOf, insideOf, loadOf, scalarLoadOf, scalarStoreOf};
-ghost use Rattle.memory.specs.Address.{plainOf, plainAt, privateOf, privateAt};
-ghost use Rattle.memory.specs.LaneAccess.{allInside, storeLanes, loadLanesOf, storeLanesOf};
-ghost use Rattle.memory.specs.Rows.{outsideLane, placeLane, bytesLane, findLane, Checked};
+ghost use Rattle.memory.specs.Memory.{memory, dataLimit, MemoryOk, sizeOf, widthOf, insideOf, loadOf, storeOf};
+ghost use Rattle.memory.specs.Address.{plainOf, privateOf, addressOf, laneAddress, offsetLimit};
+ghost use Rattle.memory.specs.LaneAccess.{allInside, storeLanes};
+ghost use Rattle.memory.specs.declared.Loaded.the-variants.{Found, Outside};
 
 // What a scalar load finds.
 pub enum Loaded {
@@ -27,7 +30,7 @@ pub enum Loaded {
 pub struct Private {
     pub numt: u32,
     pub numw: u32,
-    pub wid: u32,
+    pub tid: u32,
     pub pds: u32,
 }
 
@@ -71,18 +74,11 @@ fn room(len: usize, w: usize) -> u32
 }
 
 // The access rule. An address below the base wraps to a place past every room.
-fn inside(base: u32, len: usize, w: usize, a: u32) -> bool
-    requires { ⌜ DataOk base len × ((1 ≤ w) × (w ≤ 4)) ⌝ }
-    ensures { λ r. ⌜ r ≡ insideOf base len w a ⌝ }
+fn inside(d: &[u8], base: u32, w: usize, a: u32) -> bool
+    requires { ⌜ MemoryOk (memory base (now d)) × ((1 ≤ w) × (w ≤ 4)) ⌝ }
+    ensures { λ r. ⌜ r ≡ insideOf (memory base (now (d .entry))) w a ⌝ }
 {
-    word::sub(a, base) < room(len, w)
-}
-
-// The index of the byte at address a; past every place where a lies below the base.
-fn place(base: u32, a: u32) -> usize
-    ensures { λ r. ⌜ r ≡ subOf a base ⌝ }
-{
-    word::sub(a, base) as usize
+    word::sub(a, base) < room(d.len(), w)
 }
 
 // Reads in a straight line: each becomes one machine load.
@@ -111,10 +107,12 @@ pub fn word_at(d: &[u8], i: usize) -> u32
     low + 0x1_0000 * high
 }
 
-fn load_at(d: &[u8], k: LoadOp, i: usize) -> u32
-    requires { ⌜ i + sizeOf k ≤ length (now d) ⌝ }
-    ensures { λ r. ⌜ r ≡ loadOf k (now (d .entry)) i ⌝ }
+// A load at an address that lies inside, by a scalar or by a lane.
+fn load_at(d: &[u8], base: u32, k: LoadOp, a: u32) -> u32
+    requires { ⌜ insideOf (memory base (now d)) (sizeOf k) a ≡ true ⌝ }
+    ensures { λ r. ⌜ r ≡ loadOf k (memory base (now (d .entry))) a ⌝ }
 {
+    let i = (a - base) as usize;
     match k {
         LoadOp::B => word::extend(8, byte_at(d, i)),
         LoadOp::H => word::extend(16, half_at(d, i)),
@@ -148,10 +146,12 @@ fn put_word(d: &mut [u8], i: usize, x: u32)
     put_half(d, i + 2, x / 256 / 256);
 }
 
-fn put_at(d: &mut [u8], k: StoreOp, i: usize, x: u32)
-    requires { ⌜ i + widthOf k ≤ length (now d) ⌝ }
-    ensures { λ _. ⌜ now (d .exit) ≡ sets (now (d .entry)) i (leBytes (widthOf k) x) ⌝ }
+// A store at an address that lies inside, by a scalar or by a lane.
+fn put_at(d: &mut [u8], base: u32, k: StoreOp, a: u32, x: u32)
+    requires { ⌜ insideOf (memory base (now d)) (widthOf k) a ≡ true ⌝ }
+    ensures { λ _. ⌜ now (d .exit) ≡ storeOf k a x (memory base (now (d .entry))) ⌝ }
 {
+    let i = (a - base) as usize;
     match k {
         StoreOp::B => put_byte(d, i, x),
         StoreOp::H => put_half(d, i, x),
@@ -160,22 +160,22 @@ fn put_at(d: &mut [u8], k: StoreOp, i: usize, x: u32)
 }
 
 pub fn scalar_load(d: &[u8], base: u32, k: LoadOp, a: u32) -> Loaded
-    requires { ⌜ DataOk base (length (now d)) ⌝ }
-    ensures { λ r. ⌜ r ≡ scalarLoadOf (now (d .entry)) base k a ⌝ }
+    requires { ⌜ MemoryOk (memory base (now d)) ⌝ }
+    ensures { λ r. ⌜ r ≡ cond (insideOf (memory base (now (d .entry))) (sizeOf k) a) (Found (loadOf k (memory base (now (d .entry))) a)) Outside ⌝ }
 {
-    if inside(base, d.len(), size(k), a) {
-        return Loaded::Found(load_at(d, k, place(base, a)));
+    if inside(d, base, size(k), a) {
+        return Loaded::Found(load_at(d, base, k, a));
     }
     Loaded::Outside
 }
 
 // False, and nothing changed, where the access is not wholly inside.
 pub fn scalar_store(d: &mut [u8], base: u32, k: StoreOp, a: u32, x: u32) -> bool
-    requires { ⌜ DataOk base (length (now d)) ⌝ }
-    ensures { λ r. ⌜ (r ≡ insideOf base (length (now (d .entry))) (widthOf k) a) × (now (d .exit) ≡ scalarStoreOf (now (d .entry)) base k a x) ⌝ }
+    requires { ⌜ MemoryOk (memory base (now d)) ⌝ }
+    ensures { λ t. ⌜ (t ≡ insideOf (memory base (now (d .entry))) (widthOf k) a) × (now (d .exit) ≡ cond t (storeOf k a x (memory base (now (d .entry)))) (now (d .entry))) ⌝ }
 {
-    if inside(base, d.len(), width(k), a) {
-        put_at(d, k, place(base, a), x);
+    if inside(d, base, width(k), a) {
+        put_at(d, base, k, a, x);
         return true;
     }
     false
@@ -183,7 +183,7 @@ pub fn scalar_store(d: &mut [u8], base: u32, k: StoreOp, a: u32, x: u32) -> bool
 
 // The address of a plain access, by a scalar or by a lane.
 pub fn plain_address(x: u32, off: u16) -> u32
-    requires { ⌜ off < 2 ^ 12 ⌝ }
+    requires { ⌜ off < offsetLimit spaces.Plain ⌝ }
     ensures { λ r. ⌜ r ≡ plainOf x off ⌝ }
 {
     word::add(x, word::extend(12, off as u32))
@@ -191,119 +191,161 @@ pub fn plain_address(x: u32, off: u16) -> u32
 
 // The one place of the private rule.
 fn private_address(p: Private, x: u32, off: u16, l: Lane) -> u32
-    requires { ⌜ (off < 2 ^ 11) × (l .0 < lanesMax) ⌝ }
+    requires { ⌜ (off < offsetLimit spaces.Private) × (l .0 < lanesMax) ⌝ }
     ensures { λ r. ⌜ r ≡ privateOf p x off (l .0) ⌝ }
 {
     let from = word::add(x, word::extend(11, off as u32));
-    let tid = word::mul(p.wid, p.numt);
     word::add(
         word::add(
             word::mul(from, word::mul(p.numw, p.numt)),
-            word::add(tid, l.0 as u32),
+            word::add(p.tid, l.0 as u32),
         ),
         p.pds,
     )
 }
 
-// The plain addresses of the lanes below n, over register r.
-pub fn plain_row(v: &[u32], r: VReg, off: u16, n: usize, o: &mut [u32; 32])
-    requires { ⌜ (length (now v) ≡ fileWords) × ((r .0 < registers) × ((off < 2 ^ 12) × ((n ≤ lanesMax) × (length (now o) ≡ lanesMax)))) ⌝ }
-    ensures { λ _. ⌜ Row n (plainAt (now (v .entry)) r off) (now (o .exit)) ⌝ }
+// Where lane l's access goes.
+fn address(space: Space, p: Private, x: u32, off: u16, l: Lane) -> u32
+    requires { ⌜ (off < offsetLimit space) × (l .0 < lanesMax) ⌝ }
+    ensures { λ r. ⌜ r ≡ addressOf space p x off (l .0) ⌝ }
 {
-    let mut l = 0;
-    while l < n {
-        let i = lanes::slot(r, Lane(l));
-        o[l] = plain_address(v[i], off);
-        l += 1;
+    match space {
+        Space::Plain => plain_address(x, off),
+        Space::Private => private_address(p, x, off, l),
     }
 }
 
-// The private addresses of the lanes below n, over register r.
-pub fn private_row(v: &[u32], r: VReg, off: u16, p: Private, n: usize, o: &mut [u32; 32])
-    requires { ⌜ (length (now v) ≡ fileWords) × ((r .0 < registers) × ((off < 2 ^ 11) × ((n ≤ lanesMax) × (length (now o) ≡ lanesMax)))) ⌝ }
-    ensures { λ _. ⌜ Row n (privateAt p (now (v .entry)) r off) (now (o .exit)) ⌝ }
+// The addresses of the lanes below n, over register r.
+fn address_row(space: Space, p: Private, v: &[u32], r: VReg, off: u16, n: usize) -> [u32; LANES]
+    requires { ⌜ (length (now v) ≡ fileWords) × ((r .0 < registers) × ((off < offsetLimit space) × (n ≤ lanesMax))) ⌝ }
+    ensures { λ o. ⌜ Row n (laneAddress space p (now (v .entry)) r off) o ⌝ }
 {
+    let mut o = [0u32; LANES];
     let mut l = 0;
     while l < n {
         let i = lanes::slot(r, Lane(l));
-        o[l] = private_address(p, v[i], off, Lane(l));
+        o[l] = address(space, p, v[i], off, Lane(l));
         l += 1;
+    }
+    o
+}
+
+// The same loop at a space that is known, so that each arm is compiled to vector code of its own.
+pub fn addresses(space: Space, p: Private, v: &[u32], r: VReg, off: u16, n: usize) -> [u32; LANES]
+    requires { ⌜ (length (now v) ≡ fileWords) × ((r .0 < registers) × ((off < offsetLimit space) × (n ≤ lanesMax))) ⌝ }
+    ensures { λ o. ⌜ Row n (laneAddress space p (now (v .entry)) r off) o ⌝ }
+{
+    match space {
+        Space::Plain => address_row(Space::Plain, p, v, r, off, n),
+        Space::Private => address_row(Space::Private, p, v, r, off, n),
     }
 }
 
 // The lanes below n, active or not, whose access is not inside: a mask made without a branch.
-fn outside(base: u32, len: usize, w: usize, n: usize, o: &[u32; 32]) -> u32
-    requires { ⌜ DataOk base len × ((1 ≤ w) × ((w ≤ 4) × (n ≤ lanesMax))) ⌝ }
-    ensures { λ r. ⌜ r ≡ maskOf n (outsideLane base len w (now (o .entry))) ⌝ }
+fn outside(d: &[u8], base: u32, w: usize, n: usize, o: &[u32; LANES]) -> u32
+    requires { ⌜ MemoryOk (memory base (now d)) × ((1 ≤ w) × ((w ≤ 4) × (n ≤ lanesMax))) ⌝ }
+    ensures { λ r. ⌜ r ≡ maskOf n (λ l. not (insideOf (memory base (now (d .entry))) w (at (now (o .entry)) l))) ⌝ }
 {
     let mut out = 0;
     let mut l = 0;
     while l < n {
-        out = lanes::with(out, Lane(l), !inside(base, len, w, o[l]));
+        out = lanes::with(out, Lane(l), !inside(d, base, w, o[l]));
         l += 1;
     }
     out
 }
 
 // The test pass, over every active lane.
-fn all_inside(mask: u32, base: u32, len: usize, w: usize, n: usize, o: &[u32; 32]) -> bool
-    requires { ⌜ (mask < 2 ^ n) × (DataOk base len × ((1 ≤ w) × ((w ≤ 4) × (n ≤ lanesMax)))) ⌝ }
-    ensures { λ t. ⌜ t ≡ allInside n (bit mask) base len w (at (now (o .entry))) ⌝ }
+fn all_inside(d: &[u8], base: u32, w: usize, mask: u32, n: usize, o: &[u32; LANES]) -> bool
+    requires { ⌜ (mask < 2 ^ n) × (MemoryOk (memory base (now d)) × ((1 ≤ w) × ((w ≤ 4) × (n ≤ lanesMax)))) ⌝ }
+    ensures { λ t. ⌜ t ≡ allInside n (bit mask) (memory base (now (d .entry))) w (at (now (o .entry))) ⌝ }
 {
-    outside(base, len, w, n, o) & mask == 0
+    outside(d, base, w, n, o) & mask == 0
 }
 
-// What each active lane of a load finds.
-fn fetch(d: &[u8], mask: u32, k: LoadOp, n: usize, base: u32, o: &[u32; 32], x: &mut [u32; 32])
-    requires { ⌜ (length (now x) ≡ lanesMax) × Checked n mask base (length (now d)) (sizeOf k) (now o) ⌝ }
-    ensures { λ _. ⌜ RowOn (bit mask) n (findLane k (now (d .entry)) base (now (o .entry))) (now (x .exit)) ⌝ }
+// What each active lane of a load finds, after the test pass.
+fn fetch(
+    d: &[u8],
+    base: u32,
+    k: LoadOp,
+    mask: u32,
+    n: usize,
+    o: &[u32; LANES],
+    x: &mut [u32; LANES],
+)
+    requires { ⌜ (length (now x) ≡ lanesMax) × ((n ≤ lanesMax) × (true ≡ allInside n (bit mask) (memory base (now d)) (sizeOf k) (at (now o)))) ⌝ }
+    ensures { λ _. ⌜ RowOn (bit mask) n (λ l. loadOf k (memory base (now (d .entry))) (at (now (o .entry)) l)) (now (x .exit)) ⌝ }
 {
     let mut l = 0;
     while l < n {
         if lanes::active(mask, Lane(l)) {
-            x[l] = load_at(d, k, place(base, o[l]));
+            x[l] = load_at(d, base, k, o[l]);
         }
         l += 1;
     }
 }
 
 // The same loop at an operation that is known.
-fn fetch_op(d: &[u8], mask: u32, k: LoadOp, n: usize, base: u32, o: &[u32; 32], x: &mut [u32; 32])
-    requires { ⌜ (length (now x) ≡ lanesMax) × Checked n mask base (length (now d)) (sizeOf k) (now o) ⌝ }
-    ensures { λ _. ⌜ RowOn (bit mask) n (findLane k (now (d .entry)) base (now (o .entry))) (now (x .exit)) ⌝ }
+fn fetch_op(
+    d: &[u8],
+    base: u32,
+    k: LoadOp,
+    mask: u32,
+    n: usize,
+    o: &[u32; LANES],
+    x: &mut [u32; LANES],
+)
+    requires { ⌜ (length (now x) ≡ lanesMax) × ((n ≤ lanesMax) × (true ≡ allInside n (bit mask) (memory base (now d)) (sizeOf k) (at (now o)))) ⌝ }
+    ensures { λ _. ⌜ RowOn (bit mask) n (λ l. loadOf k (memory base (now (d .entry))) (at (now (o .entry)) l)) (now (x .exit)) ⌝ }
 {
     match k {
-        LoadOp::B => fetch(d, mask, LoadOp::B, n, base, o, x),
-        LoadOp::H => fetch(d, mask, LoadOp::H, n, base, o, x),
-        LoadOp::W => fetch(d, mask, LoadOp::W, n, base, o, x),
-        LoadOp::Bu => fetch(d, mask, LoadOp::Bu, n, base, o, x),
-        LoadOp::Hu => fetch(d, mask, LoadOp::Hu, n, base, o, x),
+        LoadOp::B => fetch(d, base, LoadOp::B, mask, n, o, x),
+        LoadOp::H => fetch(d, base, LoadOp::H, mask, n, o, x),
+        LoadOp::W => fetch(d, base, LoadOp::W, mask, n, o, x),
+        LoadOp::Bu => fetch(d, base, LoadOp::Bu, mask, n, o, x),
+        LoadOp::Hu => fetch(d, base, LoadOp::Hu, mask, n, o, x),
     }
 }
 
 // The write pass, in lane order.
-fn store(d: &mut [u8], mask: u32, k: StoreOp, n: usize, base: u32, o: &[u32; 32], x: &[u32; 32])
-    requires { ⌜ Checked n mask base (length (now d)) (widthOf k) (now o) ⌝ }
-    ensures { λ _. ⌜ now (d .exit) ≡ storeLanes n (bit mask) (placeLane base (now (o .entry))) (bytesLane k (now (x .entry))) (now (d .entry)) ⌝ }
+fn store(
+    d: &mut [u8],
+    base: u32,
+    k: StoreOp,
+    mask: u32,
+    n: usize,
+    o: &[u32; LANES],
+    x: &[u32; LANES],
+)
+    requires { ⌜ (n ≤ lanesMax) × (true ≡ allInside n (bit mask) (memory base (now d)) (widthOf k) (at (now o))) ⌝ }
+    ensures { λ _. ⌜ now (d .exit) ≡ storeLanes n (bit mask) k (at (now (o .entry))) (at (now (x .entry))) (memory base (now (d .entry))) ⌝ }
 {
     let mut l = 0;
     while l < n {
         if lanes::active(mask, Lane(l)) {
-            put_at(d, k, place(base, o[l]), x[l]);
+            put_at(d, base, k, o[l], x[l]);
         }
         l += 1;
     }
 }
 
 // The same loop at a width that is known.
-fn store_op(d: &mut [u8], mask: u32, k: StoreOp, n: usize, base: u32, o: &[u32; 32], x: &[u32; 32])
-    requires { ⌜ Checked n mask base (length (now d)) (widthOf k) (now o) ⌝ }
-    ensures { λ _. ⌜ now (d .exit) ≡ storeLanes n (bit mask) (placeLane base (now (o .entry))) (bytesLane k (now (x .entry))) (now (d .entry)) ⌝ }
+fn store_op(
+    d: &mut [u8],
+    base: u32,
+    k: StoreOp,
+    mask: u32,
+    n: usize,
+    o: &[u32; LANES],
+    x: &[u32; LANES],
+)
+    requires { ⌜ (n ≤ lanesMax) × (true ≡ allInside n (bit mask) (memory base (now d)) (widthOf k) (at (now o))) ⌝ }
+    ensures { λ _. ⌜ now (d .exit) ≡ storeLanes n (bit mask) k (at (now (o .entry))) (at (now (x .entry))) (memory base (now (d .entry))) ⌝ }
 {
     match k {
-        StoreOp::B => store(d, mask, StoreOp::B, n, base, o, x),
-        StoreOp::H => store(d, mask, StoreOp::H, n, base, o, x),
-        StoreOp::W => store(d, mask, StoreOp::W, n, base, o, x),
+        StoreOp::B => store(d, base, StoreOp::B, mask, n, o, x),
+        StoreOp::H => store(d, base, StoreOp::H, mask, n, o, x),
+        StoreOp::W => store(d, base, StoreOp::W, mask, n, o, x),
     }
 }
 
@@ -315,15 +357,15 @@ pub fn load_lanes(
     k: LoadOp,
     d: &[u8],
     base: u32,
-    o: &[u32; 32],
+    o: &[u32; LANES],
     vd: VReg,
 ) -> bool
-    requires { ⌜ (length (now v) ≡ fileWords) × ((vd .0 < registers) × ((n ≤ lanesMax) × ((mask < 2 ^ n) × DataOk base (length (now d))))) ⌝ }
-    ensures { λ t. ⌜ (t ≡ allInside n (bit mask) base (length (now (d .entry))) (sizeOf k) (at (now (o .entry)))) × (now (v .exit) ≡ loadLanesOf n (bit mask) k base (at (now (o .entry))) (now (d .entry)) vd (now (v .entry))) ⌝ }
+    requires { ⌜ (length (now v) ≡ fileWords) × ((vd .0 < registers) × ((n ≤ lanesMax) × ((mask < 2 ^ n) × MemoryOk (memory base (now d))))) ⌝ }
+    ensures { λ t. ⌜ (t ≡ allInside n (bit mask) (memory base (now (d .entry))) (sizeOf k) (at (now (o .entry)))) × (now (v .exit) ≡ cond t (writeLanes n (bit mask) vd (λ l. loadOf k (memory base (now (d .entry))) (at (now (o .entry)) l)) (now (v .entry))) (now (v .entry))) ⌝ }
 {
-    if all_inside(mask, base, d.len(), size(k), n, o) {
-        let mut x = [0u32; 32];
-        fetch_op(d, mask, k, n, base, o, &mut x);
+    if all_inside(d, base, size(k), mask, n, o) {
+        let mut x = [0u32; LANES];
+        fetch_op(d, base, k, mask, n, o, &mut x);
         lanes::put(v, mask, vd, n, &x);
         return true;
     }
@@ -338,16 +380,16 @@ pub fn store_lanes(
     base: u32,
     k: StoreOp,
     v: &[u32],
-    o: &[u32; 32],
+    o: &[u32; LANES],
     src: VReg,
 ) -> bool
-    requires { ⌜ (length (now v) ≡ fileWords) × ((src .0 < registers) × ((n ≤ lanesMax) × ((mask < 2 ^ n) × DataOk base (length (now d))))) ⌝ }
-    ensures { λ t. ⌜ (t ≡ allInside n (bit mask) base (length (now (d .entry))) (widthOf k) (at (now (o .entry)))) × (now (d .exit) ≡ storeLanesOf n (bit mask) k base (at (now (o .entry))) (laneOf (now (v .entry)) src) (now (d .entry))) ⌝ }
+    requires { ⌜ (length (now v) ≡ fileWords) × ((src .0 < registers) × ((n ≤ lanesMax) × ((mask < 2 ^ n) × MemoryOk (memory base (now d))))) ⌝ }
+    ensures { λ t. ⌜ (t ≡ allInside n (bit mask) (memory base (now (d .entry))) (widthOf k) (at (now (o .entry)))) × (now (d .exit) ≡ cond t (storeLanes n (bit mask) k (at (now (o .entry))) (laneOf (now (v .entry)) src) (memory base (now (d .entry)))) (now (d .entry))) ⌝ }
 {
-    if all_inside(mask, base, d.len(), width(k), n, o) {
-        let mut x = [0u32; 32];
+    if all_inside(d, base, width(k), mask, n, o) {
+        let mut x = [0u32; LANES];
         lanes::get(v, src, n, &mut x);
-        store_op(d, mask, k, n, base, o, &x);
+        store_op(d, base, k, mask, n, o, &x);
         return true;
     }
     false

@@ -3,7 +3,7 @@ use mathlib.Core.Path.{_≡_, refl, ap, sym, _∙_}
 use mathlib.Core.Bool.{Bool, true, false, cond}
 use mathlib.Core.List.{List, [], _∷_, _++_}
 use Prim.Native.Nat.{ℕ, zero, suc, _+_, _-_, _*_, _/_, _%_, _^_, _≤_, _<_}
-use native.Mathlib.Nat.{add-suc, suc-add, add-zero, pow-suc, mod-eq-of-lt, div-lt-iff-lt-mul}
+use native.Mathlib.Nat.{add-zero, pow-suc, mod-eq-of-lt, div-lt-iff-lt-mul}
 use native.Mathlib.Numerals.{add-one, sub-one}
 use native.Mathlib.Omega.{arith}
 use lib.Dec.{ltb}
@@ -11,15 +11,12 @@ use borrow.Author.Tests.{lt-ltb, le-ltb}
 use lib.ListN.{length, take, set, getD, length-append}
 use lib.Seq.{sets, take-suc, take-suc-set, length-take-le}
 use Rattle.memory.specs.Bytes.{leAt}
+use Rattle.card.proofs.LayoutLaws.{sets-append}
 use Rattle.printout.specs.Printout.{firstWords, wordsOf}
 use Rattle.printout.specs.Puts.{Puts}
 use Rattle.printout.specs.Text.{digitOf, hexDigits, decimalDigits, decimalOf}
 
 -- ---- one text after another
-
-pub sets-append : (l : List ℕ) (i : ℕ) (a b : List ℕ) → sets l i (a ++ b) ≡ sets (sets l i a) (i + length a) b
-sets-append l i [] b = rw add-zero
-sets-append l i (x ∷ a) b = sets-append _ (suc i) a b ∙ rw (add-suc, suc-add)
 
 pub puts-none : (o : List ℕ) (i : ℕ) → Puts o i [] o i
 puts-none o i = record { text = refl; end = sym (add-zero i) }
@@ -27,7 +24,7 @@ puts-none o i = record { text = refl; end = sym (add-zero i) }
 pub puts-then : {o p q a b : List ℕ} {i j k : ℕ} → Puts o i a p j → Puts p j b q k → Puts o i (a ++ b) q k
 puts-then {o} {p} {q} {a} {b} {i} {j} {k} s t =
     record {
-      text = t .text ∙ rw (s .text, s .end) (sym (sets-append o i a b));
+      text = t .text ∙ rw (s .text, s .end) (sets-append a o i b);
       end = simp length-append (omega arith);
     }
 
@@ -38,7 +35,7 @@ puts-as e s = rw e s
 pub text-more : (o w : List ℕ) (i k : ℕ) → k < length w → set (sets o i (take k w)) (i + k) (getD w k 0) ≡ sets o i (take (k + 1) w)
 text-more o w i k h =
     rw (add-one, take-suc w k 0)
-    (sym (sets-append o i (take k w) (getD w k 0 ∷ []) ∙ rw (length-take-le k w (omega arith))))
+    (rw (length-take-le k w (omega arith)) at (sets-append (take k w) o i (getD w k 0 ∷ [])))
 
 -- ---- hexadecimal
 

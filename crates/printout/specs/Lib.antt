@@ -1,4 +1,3 @@
 pub mod Text
 pub mod Puts
 pub mod Printout
-pub mod Cases

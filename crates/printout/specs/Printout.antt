@@ -7,7 +7,7 @@ use lib.ListN.{length}
 use Rattle.memory.specs.Bytes.{leAt}
 use Rattle.warp.specs.declared.Launch.{Launch}
 use Rattle.card.specs.Card.{readCardOf}
-use Rattle.definition.specs.Outcome.{Outcome}
+use Rattle.definition.specs.State.{Outcome}
 use Rattle.definition.specs.Calls.{launchOf, Ran, runOf}
 use Rattle.printout.specs.Text.{hexOf, decimalOf, lineOf}
 
@@ -57,12 +57,12 @@ budget = 65536
 
 abbrev pub ranLines : Ran → List ℕ
 ranLines r =
-    let w = r .left .warp in
-    fiveLines (r .left .code) (r .steps) (w .pc) (w .mask) (w .depth)
+    let w = r .ends .left .warp in
+    fiveLines (r .ends .code) (r .steps) (w .pc) (w .mask) (w .depth)
 
 -- the kernel k in words
 abbrev pub launchedLines : List ℕ → Outcome → List ℕ
-launchedLines k o = cond (eqb (o .code) 0) (ranLines (runOf k budget (o .warp) (o .vector) (o .bytes))) (codeLine (o .code))
+launchedLines k o = cond (eqb (o .code) 0) (ranLines (runOf k budget (o .left))) (codeLine (o .code))
 
 unfoldable pub kernelLines : List ℕ → Launch → List ℕ → List ℕ → List ℕ
 kernelLines k l v d = launchedLines k (launchOf k l v d)

@@ -5,7 +5,7 @@ ghost use Prim.Native.Nat.{_+_, _/_, _<_, _≤_};
 ghost use mathlib.Core.List.{[], _∷_};
 ghost use lib.ListN.{length, take};
 ghost use Rattle.io.specs.Counts.{Counts};
-ghost use Rattle.definition.specs.Step.{kernelLimit};
+ghost use Rattle.definition.specs.Refuse.{kernelLimit};
 ghost use Rattle.printout.specs.Text.{digitOf, hexDigits, hexOf, decimalOf, lineOf};
 ghost use Rattle.printout.specs.Puts.{Puts, roomNeeded};
 ghost use Rattle.printout.specs.Printout.{codeLine, fiveLines, wordsOf, kernelLines, printoutOf};
@@ -133,8 +133,8 @@ fn print_kernel(
 {
     let left = machine::launch(l, kernel, vector, bytes);
     let a = left.answer;
-    let code = machine::number(a);
-    if code != 0 {
+    let code = answer::number(a);
+    if code != answer::DONE {
         return put_code_line(out, code);
     }
     let w = left.warp;
@@ -143,7 +143,7 @@ fn print_kernel(
     let u = ran.warp;
     put_five_lines(
         out,
-        machine::number(b),
+        answer::number(b),
         ran.steps as u64,
         u.pc,
         u.mask,
@@ -165,16 +165,16 @@ pub fn print_files(
 {
     let read = card::read_card(card);
     let a = read.answer;
-    let code = card::card_number(a);
-    if code != 0 {
+    let code = answer::number(a);
+    if code != answer::DONE {
         return put_code_line(out, code);
     }
     if kernel.len() % 4 != 0 {
-        return put_code_line(out, 1);
+        return put_code_line(out, answer::SIZE);
     }
     let n = kernel.len() / 4;
     if KERNEL_LIMIT < n {
-        return put_code_line(out, 1);
+        return put_code_line(out, answer::SIZE);
     }
     put_words(kernel, words);
     let l = read.launch;

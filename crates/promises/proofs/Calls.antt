@@ -1,71 +1,37 @@
--- Two allowed results of a public call are equal: an answer can be made again of its number.
-use Prim.Native.Nat.{ℕ}
-use mathlib.Core.Path.{_≡_, refl, ap}
-use mathlib.Core.Bool.{cond}
-use mathlib.Core.List.{List}
-use lib.Dec.{eqb}
+-- Two allowed results of a public call are equal: what is seen of one is all of it, as an answer is told by its number.
+use mathlib.Core.Path.{ap, ap₂}
+use Rattle.answer.specs.declared.Answer.{Answer}
+use Rattle.answer.proofs.Numbers.{number-one}
 use Rattle.warp.specs.declared.Warp.{Warp}
-use Rattle.warp.specs.Warp as warp
-use Rattle.definition.specs.Outcome.{Outcome}
-use Rattle.definition.specs.Calls.{Ran}
-use Rattle.machine.specs.Answer.{numberOf}
-use Rattle.machine.specs.declared.Answer.{Answer}
-use Rattle.machine.specs.declared.Answer.the-variants.{Done, Refused}
-use Rattle.machine.specs.declared.Refusal.{Refusal}
-use Rattle.machine.specs.declared.Refusal.the-variants.{Size, Malformed, Ended, Waiting, OffKernel, Unknown, BadCsr, BadTarget, Outside, Differing, SplitOpen, NotWaiting}
-use Rattle.machine.specs.declared.Left.{Left}
-use Rattle.promises.specs.Calls.{Leaves, RunLeaves, seen, runSeen, freed, LaunchDetermined, StepDetermined, RunDetermined, ReleaseDetermined}
-use Rattle.promises.proofs.Determined.{determined-whole, shown-back}
+use Rattle.warp.specs.Warp.{Answered}
+use Rattle.definition.specs.State.{State, Outcome}
+use Rattle.definition.specs.Step.{stepOf}
+use Rattle.definition.specs.Calls.{Ran, runOf, releaseOf}
+use Rattle.promises.specs.Determined.{ShowsAll}
+use Rattle.promises.specs.Calls.{seen, runSeen, freed, LaunchDetermined, StepDetermined, RunDetermined, ReleaseDetermined}
+use Rattle.promises.proofs.Determined.{determined-whole}
 
-abbrev answerOf : ℕ → Answer
-answerOf n =
-    cond (eqb n 0) Done (cond (eqb n 1) (Refused Size) (cond (eqb n 2) (Refused Malformed) (cond (eqb n 3) (Refused Ended) (cond (eqb n 4) (Refused Waiting)
-    (cond (eqb n 5) (Refused OffKernel) (cond (eqb n 6) (Refused Unknown) (cond (eqb n 7) (Refused BadCsr) (cond (eqb n 8) (Refused BadTarget)
-    (cond (eqb n 9) (Refused Outside) (cond (eqb n 10) (Refused Differing) (cond (eqb n 11) (Refused SplitOpen) (Refused NotWaiting))))))))))))
+all-seen : ShowsAll seen
+all-seen r t e =
+    ap₂ (λ (a : Answer) (m : State). record { result = record { answer = a; warp = m .warp }; vector = m .vector; bytes = m .bytes })
+    (number-one _ _ (ap (λ (o : Outcome). o .code) e)) (ap (λ (o : Outcome). o .left) e)
 
-back : (a : Answer) → answerOf (numberOf a) ≡ a
-back Done = refl
-back (Refused Size) = refl
-back (Refused Malformed) = refl
-back (Refused Ended) = refl
-back (Refused Waiting) = refl
-back (Refused OffKernel) = refl
-back (Refused Unknown) = refl
-back (Refused BadCsr) = refl
-back (Refused BadTarget) = refl
-back (Refused Outside) = refl
-back (Refused Differing) = refl
-back (Refused SplitOpen) = refl
-back (Refused NotWaiting) = refl
+all-run : ShowsAll runSeen
+all-run r t e =
+    ap₂ (λ (a : Answer) (p : Ran). record { result = record { answer = a; steps = p .steps; warp = p .ends .left .warp }; vector = p .ends .left .vector; bytes = p .ends .left .bytes })
+    (number-one _ _ (ap (λ (p : Ran). p .ends .code) e)) e
 
-abbrev left : Outcome → Leaves
-left o = record { result = record { answer = answerOf (o .code); warp = o .warp }; vector = o .vector; bytes = o .bytes }
-
-left-back : (r : Leaves) → left (seen r) ≡ r
-left-back r = ap (λ (a : Answer). record { result = record { answer = a; warp = r .result .warp }; vector = r .vector; bytes = r .bytes }) (back (r .result .answer))
-
-abbrev run : Ran → RunLeaves
-run o =
-    record { result = record { answer = answerOf (o .left .code); steps = o .steps; warp = o .left .warp }; vector = o .left .vector; bytes = o .left .bytes }
-
-run-back : (r : RunLeaves) → run (runSeen r) ≡ r
-run-back r =
-    ap (λ (a : Answer). record { result = record { answer = a; steps = r .result .steps; warp = r .result .warp }; vector = r .vector; bytes = r .bytes }) (back (r .result .answer))
-
-abbrev free : warp.Answer → Left
-free o = record { answer = answerOf (o .code); warp = o .warp }
-
-free-back : (r : Left) → free (freed r) ≡ r
-free-back r = ap (λ (a : Answer). record { answer = a; warp = r .warp }) (back (r .answer))
+all-freed : ShowsAll freed
+all-freed r t e = ap₂ (λ (a : Answer) (w : Warp). record { answer = a; warp = w }) (number-one _ _ (ap (λ (o : Answered). o .code) e)) (ap (λ (o : Answered). o .warp) e)
 
 pub launch-determined : LaunchDetermined
-launch-determined k v d = determined-whole seen _ (shown-back seen left left-back)
+launch-determined k v d = determined-whole seen _ all-seen
 
 pub step-determined : StepDetermined
-step-determined k v d = determined-whole seen _ (shown-back seen left left-back)
+step-determined k = determined-whole seen (stepOf k) all-seen
 
 pub run-determined : RunDetermined
-run-determined k v d n = determined-whole runSeen _ (shown-back runSeen run run-back)
+run-determined k n = determined-whole runSeen (runOf k n) all-run
 
 pub release-determined : ReleaseDetermined
-release-determined = determined-whole freed _ (shown-back freed free free-back)
+release-determined = determined-whole freed releaseOf all-freed

@@ -6,23 +6,15 @@ use mathlib.Core.List.{List, [], _∷_, map}
 use lib.Dec.{lit≤}
 use lib.Count.{ones}
 use lib.ListN.{replicate}
-use Rattle.isa.specs.Decode.{decodeOf}
-use Rattle.isa.specs.Scalar as Scalar
-use Rattle.isa.specs.Vector.{operandsOf, multiplyOf, plainOf, vectorOf}
-use Rattle.isa.specs.Ventus as Ventus
-use Rattle.lanes.specs.Mask.{bitAt}
-use Rattle.lanes.specs.Lanes.{fileWords, eachLane, allLanes}
+use Rattle.lanes.specs.Lanes.{fileWords}
 use Rattle.warp.specs.declared.Launch.{Launch}
-use Rattle.warp.specs.Warp.{zeroWarp, withStop, reachOf}
-use Rattle.warp.specs.WellFormed.{fixedOkOf, splitOkOf, chainOf, allZero, wellFormedOf}
-use Rattle.warp.specs.Splits.{openOf, vbranchOf, joinOf, setRpcOf}
-use Rattle.warp.specs.Csr.{csrOf}
-use Rattle.definition.specs.Exec.{effectOf, execOf}
-use Rattle.definition.specs.Step.{runsOkOf, stepOf}
-use Rattle.definition.specs.Calls.{launchOf, stepsOf, runOf, releaseOf}
-use Rattle.promises.specs.Reached.{State, stepAt, steps, releases, Reached, launched, goes}
+use Rattle.warp.specs.Warp.{zeroWarp, withStop}
+use Rattle.definition.specs.State.{State, state}
+use Rattle.definition.specs.Step.{stepOf}
+use Rattle.definition.specs.Calls.{runOf}
+use Rattle.definition.proofs.Computes.{computes}
+use Rattle.promises.specs.Reached.{steps, releases, Reached, launched, goes}
 use Rattle.promises.specs.Splits.{Opens, Above, here, on}
-use Rattle.promises.specs.Runs.{stateOf, runAt}
 use Rattle.promises.specs.Bound.{loop, launchOn, startOf}
 use Rattle.promises.proofs.Runs.{run-reaches}
 use Rattle.promises.proofs.Splits.{split-cuts, one-lane, restored}
@@ -33,27 +25,27 @@ abbrev two : Launch
 two = launchOn 2 3
 
 two-started : Reached loop two (startOf loop two)
-unfolding launchOf runsOkOf fixedOkOf
+unfolding computes
 two-started = launched (replicate fileWords 0) [] refl
 
 abbrev after : ℕ → State
-after n = stateOf (runAt loop n (startOf loop two) .left)
+after n = runOf loop n (startOf loop two) .ends .left
 
 after-reached : (n : ℕ) → Reached loop two (after n)
 after-reached n = run-reaches loop two n (startOf loop two) two-started .reached
 
 pub split-opens : Opens loop (after 4) (after 5)
-unfolding launchOf runOf stepsOf stepOf execOf effectOf runsOkOf wellFormedOf fixedOkOf chainOf splitOkOf allZero eachLane allLanes bitAt reachOf openOf vbranchOf joinOf setRpcOf csrOf zeroWarp decodeOf operandsOf multiplyOf plainOf vectorOf Scalar.csrOf Scalar.fenceOf Scalar.loadOf Ventus.joinOf Ventus.splitsOf Ventus.stopOf Ventus.endPrgOf Ventus.barrierOf
+unfolding computes
 split-opens = split-cuts loop two (after 4) (after 5) (after-reached 4) refl refl
 
 between : Above loop 0 (after 5) (after 9)
-unfolding launchOf runOf stepsOf stepOf execOf effectOf runsOkOf wellFormedOf fixedOkOf chainOf splitOkOf allZero eachLane allLanes bitAt reachOf openOf vbranchOf joinOf setRpcOf csrOf zeroWarp decodeOf operandsOf multiplyOf plainOf vectorOf Scalar.csrOf Scalar.fenceOf Scalar.loadOf Ventus.joinOf Ventus.splitsOf Ventus.stopOf Ventus.endPrgOf Ventus.barrierOf
+unfolding computes
 between =
     on {t = after 8} (on {t = after 7} (on {t = after 6} (on {t = after 5} (here (lit≤ tt)) (steps refl) (lit≤ tt)) (steps refl) (lit≤ tt)) (steps refl) (lit≤ tt))
     (steps refl) (lit≤ tt)
 
 pub mask-back : (after 10 .warp .depth ≡ 0) × (after 10 .warp .mask ≡ 3)
-unfolding launchOf runOf stepsOf stepOf execOf effectOf runsOkOf wellFormedOf fixedOkOf chainOf splitOkOf allZero eachLane allLanes bitAt reachOf openOf vbranchOf joinOf setRpcOf csrOf zeroWarp decodeOf operandsOf multiplyOf plainOf vectorOf Scalar.csrOf Scalar.fenceOf Scalar.loadOf Ventus.joinOf Ventus.splitsOf Ventus.stopOf Ventus.endPrgOf Ventus.barrierOf
+unfolding computes
 mask-back = restored loop two (after 4) (after 5) (after 9) (after 10) (after-reached 4) refl refl between (steps refl) (lit≤ tt)
 
 -- ---- one lane in the loop
@@ -62,7 +54,7 @@ abbrev one : Launch
 one = launchOn 1 1
 
 pub no-split : startOf loop one .warp .depth ≡ 0
-unfolding launchOf runsOkOf fixedOkOf ones
+unfolding computes ones
 no-split = one-lane loop one (startOf loop one) (launched (replicate fileWords 0) [] refl) refl
 
 -- ---- a release
@@ -71,20 +63,17 @@ abbrev waits : List ℕ
 waits = 0x0400400b ∷ 0x0000400b ∷ []
 
 abbrev waiting : State
-waiting = stateOf (runAt waits 1 (startOf waits two) .left)
+waiting = runOf waits 1 (startOf waits two) .ends .left
 
-abbrev going : State
-going = record { warp = withStop false false (waiting .warp); vector = waiting .vector; bytes = waiting .bytes }
-
-pub released : Reached waits two going
-unfolding launchOf runOf stepsOf stepOf execOf effectOf runsOkOf wellFormedOf fixedOkOf chainOf splitOkOf allZero eachLane allLanes bitAt reachOf openOf vbranchOf joinOf setRpcOf csrOf zeroWarp decodeOf operandsOf multiplyOf plainOf vectorOf Scalar.csrOf Scalar.fenceOf Scalar.loadOf Ventus.joinOf Ventus.splitsOf Ventus.stopOf Ventus.endPrgOf Ventus.barrierOf releaseOf
-released = goes (run-reaches waits two 1 (startOf waits two) (launched (replicate fileWords 0) [] refl) .reached) (releases refl refl refl)
+pub released : Reached waits two (state (withStop false false (waiting .warp)) (waiting .vector) (waiting .bytes))
+unfolding computes
+released = goes (run-reaches waits two 1 (startOf waits two) (launched (replicate fileWords 0) [] refl) .reached) (releases refl)
 
 -- ---- every row of a step's table is met: 1 by a vector file of no words, 2 by a warp of all zeros, 3 to 11 by runs of a word or three
 
-pub rows-met : stepAt loop (record { warp = after 0 .warp; vector = []; bytes = [] }) .code ∷ stepOf loop zeroWarp (replicate fileWords 0) [] .code
-    ∷ map (λ (k : List ℕ). runAt k 4 (startOf k two) .left .code)
+pub rows-met : stepOf loop (state (after 0 .warp) [] []) .code ∷ stepOf loop (state zeroWarp (replicate fileWords 0) []) .code
+    ∷ map (λ (k : List ℕ). runOf k 4 (startOf k two) .ends .code)
     ((0x0000400b ∷ []) ∷ (0x0400400b ∷ []) ∷ (0x0000000f ∷ []) ∷ (0x00000000 ∷ []) ∷ (0x80001073 ∷ []) ∷ (0x0020006f ∷ []) ∷ (0x00002003 ∷ []) ∷ (0x5208a057 ∷ 0x420020d7 ∷ []) ∷ (0x5208a057 ∷ 0x0010145b ∷ 0x0000400b ∷ []) ∷ [])
     ≡ 1 ∷ 2 ∷ 3 ∷ 4 ∷ 5 ∷ 6 ∷ 7 ∷ 8 ∷ 9 ∷ 10 ∷ 11 ∷ []
-unfolding launchOf runOf stepsOf stepOf execOf effectOf runsOkOf wellFormedOf fixedOkOf chainOf splitOkOf allZero eachLane allLanes bitAt reachOf openOf vbranchOf joinOf setRpcOf csrOf zeroWarp decodeOf operandsOf multiplyOf plainOf vectorOf Scalar.csrOf Scalar.fenceOf Scalar.loadOf Ventus.joinOf Ventus.splitsOf Ventus.stopOf Ventus.endPrgOf Ventus.barrierOf
+unfolding computes
 rows-met = refl

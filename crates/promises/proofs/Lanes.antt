@@ -1,160 +1,179 @@
--- An inactive lane keeps its registers, and writes no byte.
-use Prim.Native.Nat.{ℕ, _+_, _-_, _^_, _≤_, _<_}
-use mathlib.Core.Path.{_≡_, refl, sym, subst}
-use mathlib.Core.Bool.{Bool, true, false, not, _&&_, _||_, cond}
-use mathlib.Core.List.{List, [], _∷_}
-use native.Mathlib.Nat.{lt-of-le-of-lt}
+-- An inactive lane keeps its registers, writes no byte and influences nothing, and an active one no other lane's registers.
+use Prim.Native.Nat.{ℕ, _+_, _^_, _≤_, _<_}
+use mathlib.Core.Path.{_≡_, refl, sym, ap, _∙_, subst₂}
+use mathlib.Core.Bool.{Bool, true, false, not, _&&_, _||_, true≢false}
+use mathlib.Core.List.{List, [], _∷_, _++_}
+use native.Mathlib.Nat.{lt-of-le-of-lt, lt-of-lt-of-le}
 use native.Mathlib.Omega.{arith}
 use lib.Dec.{eqb, ltb, leb}
 use lib.ListN.{length, getD, drop}
-use borrow.Author.Tests.{ltb-true, ltb-false, lt-ltb}
+use lib.Seq.{set-out}
+use borrow.Author.Tests.{ltb-true, ltb-false, lt-ltb, ne-eqb}
+use Rattle.answer.specs.Rows.{Row, first}
+use Rattle.answer.proofs.Rows.{both, every-at}
 use Rattle.isa.specs.declared.Instr.{Instr}
-use Rattle.isa.specs.declared.LoadOp.{LoadOp}
-use Rattle.isa.specs.declared.StoreOp.{StoreOp}
 use Rattle.isa.specs.declared.VReg.{VReg}
-use Rattle.lanes.specs.Mask.{bit}
-use Rattle.lanes.specs.Lanes.{lanesMax, laneOf}
-use Rattle.lanes.specs.Laws.{write-length, write-unwritten}
+use Rattle.lanes.specs.Lanes.{lanesMax, registers, fileWords, slotOf, writeLanes}
+use Rattle.lanes.specs.Laws.{each-keeps, write-only, write-unwritten}
 use Rattle.lanes.specs.MaskLaws.{bit-above}
-use Rattle.memory.specs.Memory.{sizeOf, widthOf, insideOf, loadOf, orKept, scalarStoreOf}
-use Rattle.memory.specs.LaneAccess.{allInside, storeLanesOf}
-use Rattle.memory.specs.Laws.{store-length, store-unwritten, scalar-length, scalar-unwritten}
 use Rattle.warp.specs.declared.Warp.{Warp}
-use Rattle.warp.specs.Warp.{answer, aligned, splitCount}
+use Rattle.warp.specs.Warp.{aligned, splitCount}
 use Rattle.warp.specs.WellFormed.{fixedOkOf, allZero, chainOf, wellFormedOf}
-use Rattle.warp.specs.Chain.{both, every-at, chain-le}
-use Rattle.warp.specs.Formed.{fixed-ok}
-use Rattle.definition.specs.Outcome.{Outcome, Effect, goes, writes, effect}
-use Rattle.definition.specs.Outcome as effects
-use Rattle.definition.specs.Exec.{effectOf, execOf, stores, laneLoads, laneStores}
+use Rattle.warp.specs.Chain.{chain-le}
+use Rattle.warp.specs.Formed.{FixedOk, fixed-ok}
+use Rattle.definition.specs.State.{State, Outcome, fixedOf, active, memoryOf, instrAt}
+use Rattle.definition.specs.Refuse.{runsOkOf, refusalsOf, stepTests, testsOf}
+use Rattle.definition.specs.Exec.{Effect, effect, effectOf}
 use Rattle.definition.specs.Step.{stepOf}
-use Rattle.promises.specs.Lanes.{active, SameLane, Touches, ActiveMask, Kept, Unwritten}
-use Rattle.promises.specs.Refusals.{instrAt}
-use Rattle.promises.proofs.LaneShapes.{Shape, answers, gives, loads, saves, savesOne, shape}
-use Rattle.promises.proofs.LaneTests.{lanesOf, by-step}
+use Rattle.definition.proofs.Sizes.{sizes, sizes-kept}
+use Rattle.definition.proofs.Sound.{step-clear, step-taken}
+use Rattle.definition.proofs.Target.{step-within}
+use Rattle.promises.specs.Lanes.{isActive, SameLane, Agree, allBut, withFile, Alike, Touches, ActiveMask, Kept, Unwritten, Unseen, Unfelt, LaneAlone}
+use Rattle.promises.proofs.Refusals.{is-zero, step-table, step-keeps}
+use Rattle.promises.proofs.Twins.{active-of, Same, Twin, moves, gives, saves, seen}
 
 -- ---- active lanes
 
+fixed-of : (w : Warp) → wellFormedOf w ≡ true → FixedOk (w .fixed)
+unfolding wellFormedOf
+fixed-of w e = fixed-ok (w .fixed) (both (fixedOkOf (w .fixed)) _ e .0)
+
 pub active-mask : ActiveMask
 unfolding wellFormedOf
-active-mask w e l = below (ltb l (lanesOf w)) refl
+active-mask m e l = below (ltb l (fixedOf m .numt)) refl
   where
-    small : w .mask < 2 ^ lanesOf w
+    w : Warp
+    w = m .warp
+
+    small : w .mask < 2 ^ w .fixed .numt
     small =
         let p = every-at
         (fixedOkOf (w .fixed) ∷ aligned (w .pc) ∷ eqb (getD (w .x) 0 0) 0 ∷ leb (w .depth) splitCount ∷ allZero (drop (w .depth) (w .splits)) ∷ not (w .ended && w .waiting)
         ∷ chainOf (w .fixed .launchmask) (w .splits) (w .depth) (w .mask) ∷ not ((w .ended || w .waiting) && ltb 0 (w .depth)) ∷ []) e in
-        lt-of-le-of-lt (chain-le (w .fixed .launchmask) (w .splits) (w .depth) (w .mask) (p 6)) (fixed-ok (w .fixed) (p 0) .mask)
+        lt-of-le-of-lt (chain-le (w .fixed .launchmask) (w .splits) (w .depth) (w .mask) (p 6)) (fixed-of w e .mask)
 
-    below : (t : Bool) → ltb l (lanesOf w) ≡ t → (t && bit (w .mask) l) ≡ bit (w .mask) l
+    below : (t : Bool) → ltb l (fixedOf m .numt) ≡ t → (t && active m l) ≡ active m l
     below true t = refl
-    below false t = sym (bit-above (w .mask) (lanesOf w) l small (omega (arith, ltb-false l (lanesOf w) t)))
+    below false t = sym (bit-above (w .mask) (w .fixed .numt) l small (omega (arith, ltb-false l (w .fixed .numt) t)))
 
-pub active-below : (w : Warp) (l : ℕ) → active w l ≡ true → (l < lanesOf w) × (bit (w .mask) l ≡ true)
-active-below w l e =
-    let p = both (ltb l (lanesOf w)) (bit (w .mask) l) e in
-    (ltb-true l (lanesOf w) (p .0), p .1)
+pub active-below : (m : State) (l : ℕ) → isActive m l ≡ true → (l < fixedOf m .numt) × (active m l ≡ true)
+active-below m l e =
+    let p = both (ltb l (fixedOf m .numt)) (active m l) e in
+    (ltb-true l (fixedOf m .numt) (p .0), p .1)
 
-pub active-of : (w : Warp) (l : ℕ) → l < lanesOf w → bit (w .mask) l ≡ true → active w l ≡ true
-active-of w l h t = rw (lt-ltb l (lanesOf w) h, t)
+inactive-bit : (m : State) (l : ℕ) → isActive m l ≡ false → l < fixedOf m .numt → active m l ≡ false
+inactive-bit m l e h = rw (lt-ltb l (fixedOf m .numt) h) at e
 
-inactive-bit : (w : Warp) (l : ℕ) → active w l ≡ false → l < lanesOf w → bit (w .mask) l ≡ false
-inactive-bit w l e h = rw (lt-ltb l (lanesOf w) h) at e
+-- ---- what an inactive lane keeps
 
--- ---- kept: by the three kinds of effect
+module _ (k : List ℕ) (m : State) (u : List ℕ) (P : State → State → Type 0) where
+  abbrev other : State
+  other = withFile u m
 
-module _ (w : Warp) (v d : List ℕ) where
-  keeps : lanesOf w ≤ lanesMax → (l : ℕ) → l < lanesMax → active w l ≡ false → (e : Effect) → SameLane l (effect e w v d .vector) v
-  keeps hn l hl a (goes x) r = refl
-  keeps hn l hl a (writes c f) r = write-unwritten (bit (w .mask)) c f v (lanesOf w) hn r l hl (inactive-bit w l a)
-  keeps hn l hl a (effects.saves e) r = refl
+  -- two steps with one number: both were refused, or both taken
+  by-both : stepOf k m .code ≡ stepOf k other .code → P m other
+      → (stepOf k m .code ≡ 0 → P (effect (effectOf (instrAt k m) m) m) (effect (effectOf (instrAt k m) other) other)) → P (stepOf k m .left) (stepOf k other .left)
+  by-both c old new =
+      is-zero (stepOf k m .code) (λ z. subst₂ P (sym (step-taken k m z)) (sym (step-taken k other (sym c ∙ z))) (new z))
+      (λ n. subst₂ P (sym (ap (λ (o : Outcome). o .left) (step-keeps k m n))) (sym (ap (λ (o : Outcome). o .left) (step-keeps k other (λ z. n (c ∙ z))))) old)
 
-  keeps-length : (e : Effect) → length (effect e w v d .vector) ≡ length v
-  keeps-length (goes x) = refl
-  keeps-length (writes c f) = write-length (bit (w .mask)) c f v (lanesOf w)
-  keeps-length (effects.saves e) = refl
+by-step : (k : List ℕ) (m : State) (P : State → Type 0) → P m → (stepOf k m .code ≡ 0 → P (effect (effectOf (instrAt k m) m) m)) → P (stepOf k m .left)
+by-step k m P = by-both k m (m .vector) (λ n o. P n) refl
+
+kept-by : (m : State) (u : List ℕ) (i : Instr) (a b : Effect) → fixedOf m .numt ≤ lanesMax → (l : ℕ) → l < lanesMax → isActive m l ≡ false → Twin m u i a b → SameLane l (effect a m .vector) (m .vector)
+kept-by m u i a b n l h o (moves e) r = refl
+kept-by m u i a b n l h o (gives {r = c} {f = f} e) r = write-unwritten (active m) c f (m .vector) (fixedOf m .numt) n r l h (inactive-bit m l o)
+kept-by m u i a b n l h o (saves t e) r = refl
 
 pub kept : Kept
-unfolding execOf
-kept k w v d l hl a = by-step k w v d (λ o. SameLane l (o .vector) v) (λ n r. refl) (λ f. keeps w v d (f .lanes) l hl a (effectOf (instrAt k w) w v d))
+kept k m l h o =
+    by-step k m (λ n. SameLane l (n .vector) (m .vector)) (λ r. refl)
+    (λ z. kept-by m (m .vector) _ _ _ (fixed-of (m .warp) (step-clear k m z .formed) .lanes .1) l h o (seen m (m .vector) (instrAt k m) .twin))
 
-pub file-length : (k : List ℕ) (w : Warp) (v d : List ℕ) → length (stepOf k w v d .vector) ≡ length v
-unfolding execOf
-file-length k w v d = by-step k w v d (λ o. length (o .vector) ≡ length v) (λ n. refl) (λ f. keeps-length w v d (effectOf (instrAt k w) w v d))
-
--- ---- an access that is made or refused: the data and the vector file afterwards
-
--- every active lane's access of n bytes lies inside
-abbrev pub inside : Warp → List ℕ → ℕ → (ℕ → ℕ) → Bool
-inside w d n at = allInside (lanesOf w) (bit (w .mask)) (w .fixed .database) (length d) n at
-
--- a scalar access of n bytes at b does
-abbrev pub insideOne : Warp → List ℕ → ℕ → ℕ → Bool
-insideOne w d n b = insideOf (w .fixed .database) (length d) n b
-
-module _ (w : Warp) (v d : List ℕ) where
-  abbrev pub after : Effect → Outcome
-  after e = effect e w v d
-
-  abbrev pub orNine : Bool → Effect → Outcome
-  orNine t e = after (cond t e (goes (answer 9 w)))
-
-  stored : (t : Bool) (e : List ℕ) → orNine t (effects.saves e) .bytes ≡ orKept t e d
-  stored true e = refl
-  stored false e = refl
-
-  pub lanes-stored : (k : StoreOp) (r : VReg) (at : ℕ → ℕ) → after (laneStores k r at v d w) .bytes ≡ storeLanesOf (lanesOf w) (bit (w .mask)) k (w .fixed .database) at (laneOf v r) d
-  unfolding storeLanesOf
-  lanes-stored k r at = stored (inside w d (widthOf k) at) _
-
-  pub one-stored : (k : StoreOp) (b y : ℕ) → after (stores k b y d w) .bytes ≡ scalarStoreOf d (w .fixed .database) k b y
-  one-stored k b y = stored (insideOne w d (widthOf k) b) _
-
-  -- a load keeps the data, a store the vector file
-  pub loads-keep : (k : LoadOp) (r : VReg) (at : ℕ → ℕ) → after (laneLoads k r at d w) .bytes ≡ d
-  loads-keep k r at = either (inside w d (sizeOf k) at)
-    where
-      either : (t : Bool) → orNine t (writes r (λ l. loadOf k d (at l - w .fixed .database))) .bytes ≡ d
-      either true = refl
-      either false = refl
-
-  saves-keep : (t : Bool) (e : List ℕ) → orNine t (effects.saves e) .vector ≡ v
-  saves-keep true e = refl
-  saves-keep false e = refl
-
-  pub stores-keep : (k : StoreOp) (r : VReg) (at : ℕ → ℕ) → after (laneStores k r at v d w) .vector ≡ v
-  stores-keep k r at = saves-keep (inside w d (widthOf k) at) _
-
-  pub one-keeps : (k : StoreOp) (b y : ℕ) → after (stores k b y d w) .vector ≡ v
-  one-keeps k b y = saves-keep (insideOne w d (widthOf k) b) _
-
--- ---- unwritten: by the shapes
-
-module _ (w : Warp) (v d : List ℕ) (i : Instr) where
-  abbrev Stays : List ℕ → Type 0
-  Stays e = (length e ≡ length d) × ((j : ℕ) → (Touches w v (w .fixed .database + j) i → ⊥) → getD e j 0 ≡ getD d j 0)
-
-  abbrev StaysAfter : Effect → Type 0
-  StaysAfter e = Stays (effect e w v d .bytes)
-
-  all-stay : Stays d
-  all-stay = (refl, λ j o. refl)
-
-  stays : Shape w i → StaysAfter (effectOf i w v d)
-  stays (answers a e s) = subst StaysAfter (sym (e v d)) all-stay
-  stays (gives r f e s) = subst StaysAfter (sym (e v d)) all-stay
-  stays (loads k r at e s) = subst StaysAfter (sym (e v d)) (subst Stays (sym (loads-keep w v d k r (at v))) all-stay)
-  stays (saves k r at e s t) =
-      subst StaysAfter (sym (e v d))
-      (subst Stays (sym (lanes-stored w v d k r (at v))) (
-        store-length (lanesOf w) (bit (w .mask)) k (w .fixed .database) (at v) (laneOf v r) d,
-        λ j o. store-unwritten (lanesOf w) (bit (w .mask)) k (w .fixed .database) (at v) (laneOf v r) d j (λ l h q a b. o (t v _ l (active-of w l h q) (a, b))),
-      ))
-  stays (savesOne k b y e t) =
-      subst StaysAfter (sym (e v d))
-      (subst Stays (sym (one-stored w v d k b y))
-      (scalar-length d (w .fixed .database) k b y, λ j o. scalar-unwritten d (w .fixed .database) k b y j (λ p q. o (t v _ (p, q)))))
+unwritten-by : (m : State) (u : List ℕ) (i : Instr) (a b : Effect) → first (refusalsOf i m) ≡ 0 → Twin m u i a b
+    → (j : ℕ) → (Touches m (memoryOf m .base + j) i → ⊥) → getD (effect a m .bytes) j 0 ≡ getD (m .bytes) j 0
+unwritten-by m u i a b z (moves e) j o = refl
+unwritten-by m u i a b z (gives e) j o = refl
+unwritten-by m u i a b z (saves t e) j o = t z j o
 
 pub unwritten : Unwritten
-unfolding execOf
-unwritten k w v d = by-step k w v d (λ o. Stays w v d (instrAt k w) (o .bytes)) (λ n. all-stay w v d (instrAt k w)) (λ f. stays w v d (instrAt k w) (shape w (instrAt k w)))
+unwritten k m = (
+  step-within k m .size,
+  λ j o. by-step k m (λ n. getD (n .bytes) j 0 ≡ getD (m .bytes) j 0) refl
+      (λ z. unwritten-by m (m .vector) _ _ _ (step-clear k m z .rest) (seen m (m .vector) (instrAt k m) .twin) j o),
+)
+
+-- ---- what a lane depends on
+
+-- a write of the same words to a lane that is the same
+write-alike : (n : ℕ) (on : ℕ → Bool) (c : VReg) (f g : ℕ → ℕ) (v u : List ℕ) (l : ℕ) → n ≤ lanesMax → length v ≡ fileWords → length u ≡ fileWords → l < lanesMax → f l ≡ g l → SameLane l v u
+    → SameLane l (writeLanes n on c f v) (writeLanes n on c g u)
+write-alike n on c f g v u l hn lv lu hl e s = in-file (ltb (c .0) registers) refl
+  where
+    -- a register that the file does not have is not written
+    none : registers ≤ c .0 → (h : ℕ → ℕ) (x : List ℕ) → length x ≡ fileWords → writeLanes n on c h x ≡ x
+    none b h x lx = each-keeps on _ x (λ y. y ≡ x) refl n (λ m y p q z. set-out y (slotOf c m) (h m) (rw z (omega arith)) ∙ z)
+
+    in-file : (t : Bool) → ltb (c .0) registers ≡ t → SameLane l (writeLanes n on c f v) (writeLanes n on c g u)
+    in-file true t = write-only n hn c (ltb-true (c .0) registers t) l hl v u lv lu s on on f g refl e
+    in-file false t =
+        let b = ltb-false (c .0) registers t in
+        subst₂ (SameLane l) (sym (none b f v lv)) (sym (none b g u lu)) s
+
+module _ (k : List ℕ) (m : State) (u : List ℕ) (long : length (m .vector) ≡ length u) where
+  alone : (i : Instr) (a b : Effect) → stepOf k m .code ≡ 0 → (l : ℕ) → l < lanesMax → SameLane l (m .vector) u → Twin m u i a b
+      → SameLane l (effect a m .vector) (effect b (withFile u m) .vector)
+  alone i a b z l h s (moves e) = s
+  alone i a b z l h s (gives {r = c} {f = f} {g = g} e) =
+      let t = step-clear k m z in
+      let n = sizes (fixedOf m) k (m .vector) (m .bytes) (t .runs) .file-is in
+      write-alike (fixedOf m .numt) (active m) c f g (m .vector) u l (fixed-of (m .warp) (t .formed) .lanes .1) n (sym long ∙ n) h (e l s) s
+  alone i a b z l h s (saves t e) = s
+
+  -- where the active lanes are the same, so are the answer, the warp and the data
+  module _ (same : wellFormedOf (m .warp) ≡ true → Same m u) where
+    code-same : stepOf k m .code ≡ stepOf k (withFile u m) .code
+    code-same = step-table k m ∙ by-formed (wellFormedOf (m .warp)) refl ∙ sym (step-table k (withFile u m))
+      where
+        runs : runsOkOf (fixedOf m) k (m .vector) (m .bytes) ≡ runsOkOf (fixedOf m) k u (m .bytes)
+        runs = sizes-kept (fixedOf m) k u (m .bytes) (m .vector) (m .bytes) long refl
+
+        by-formed : (t : Bool) → wellFormedOf (m .warp) ≡ t → first (testsOf k m) ≡ first (testsOf k (withFile u m))
+        by-formed true f = rw runs (ap (λ (rs : List (Row Bool)). first (stepTests k (withFile u m) ++ rs)) (seen m u (instrAt k m) .rows (same f)))
+        by-formed false f = rw (runs, f)
+
+    equal : (i : Instr) (a b : Effect) → Same m u → Twin m u i a b → (effect a m .warp ≡ effect b (withFile u m) .warp) × (effect a m .bytes ≡ effect b (withFile u m) .bytes)
+    equal i a b s (moves e) = (e s, refl)
+    equal i a b s (gives e) = (refl, refl)
+    equal i a b s (saves t e) = (refl, e s)
+
+    left-same : (stepOf k m .left .warp ≡ stepOf k (withFile u m) .left .warp) × (stepOf k m .left .bytes ≡ stepOf k (withFile u m) .left .bytes)
+    left-same =
+        by-both k m u (λ n o. (n .warp ≡ o .warp) × (n .bytes ≡ o .bytes)) code-same (refl, refl)
+        (λ z. equal _ _ _ (same (step-clear k m z .formed)) (seen m u (instrAt k m) .twin))
+
+pub lane-alone : LaneAlone
+lane-alone k m u long c l h s = by-both k m u (λ n o. SameLane l (n .vector) (o .vector)) c s (λ z. alone k m u long _ _ _ z l h s (seen m u (instrAt k m) .twin))
+
+-- a set of lanes with all active ones: where the files agree on it, the outcomes are alike on it
+alike : (k : List ℕ) (m : State) (u : List ℕ) (on : ℕ → Bool) → ((l : ℕ) → isActive m l ≡ true → on l ≡ true) → Agree on (m .vector) u → Alike on (stepOf k m) (stepOf k (withFile u m))
+alike k m u on all g =
+    let same : wellFormedOf (m .warp) ≡ true → Same m u = λ f l h t. g .1 l (lt-of-lt-of-le h (fixed-of (m .warp) f .lanes .1)) (all l (active-of m l h t)) in
+    let c = code-same k m u (g .0) same in
+    let e = left-same k m u (g .0) same in
+    record {
+      code = c;
+      warp = e .0;
+      bytes = e .1;
+      vector = (step-within k m .words ∙ g .0 ∙ sym (step-within k (withFile u m) .words), λ l h t. lane-alone k m u (g .0) c l h (g .1 l h t));
+    }
+
+-- an active lane is another than the inactive lane h
+pub all-but : (m : State) (h : ℕ) → isActive m h ≡ false → (l : ℕ) → isActive m l ≡ true → allBut h l ≡ true
+all-but m h i l a = ap not (ne-eqb l h (λ e. true≢false (sym a ∙ ap (isActive m) e ∙ i)))
+
+pub unseen : Unseen
+unseen k m u g = alike k m u (isActive m) (λ l a. a) g
+
+pub unfelt : Unfelt
+unfelt k m u h i g = alike k m u (allBut h) (all-but m h i) g

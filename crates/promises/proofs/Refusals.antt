@@ -1,197 +1,115 @@
 -- Demand 1: the answer's number, when and only when; and what a refusal leaves.
-use Prim.Native.Nat.{ℕ, _≤_, _<_}
-use mathlib.Core.Path.{_≡_, refl, sym, _∙_, ap}
-use mathlib.Core.Bool.{Bool, true, false, not, _&&_, cond}
-use mathlib.Core.List.{List, [], _∷_, _++_}
+use Prim.Native.Nat.{ℕ, zero, suc, _+_, _≤_}
+use mathlib.Core.Path.{_≡_, refl, sym}
+use mathlib.Core.Bool.{Bool, true, false, not, _&&_, true≢false}
+use mathlib.Core.List.{List, [], _∷_, append-nil}
 use native.Mathlib.Omega.{arith}
-use lib.Dec.{eqb, leb, lit≤}
-use lib.ListN.{length, take, drop}
-use borrow.Author.Tests.{eq-eqb, eqb-true, eqb-false, leb-true, not-true}
-use Rattle.isa.specs.Table.{Row, _⇒_}
-use Rattle.warp.specs.declared.Warp.{Warp}
-use Rattle.warp.specs.Warp.{Answer, answer}
-use Rattle.warp.specs.WellFormed.{wellFormedOf}
-use Rattle.warp.specs.Chain.{both}
+use lib.Dec.{eqb, lit≤}
+use lib.ListN.{take}
+use borrow.Author.Tests.{eq-eqb, ne-eqb, eqb-true, eqb-false}
+use Rattle.answer.specs.Rows.{Row, _⇒_, first, Iff}
+use Rattle.answer.proofs.Rows.{silent, without, first-silent, zero-silent, numbered-le}
+use Rattle.warp.specs.WellFormed.{launchOkOf, wellFormedOf}
 use Rattle.warp.specs.SplitLaws.{by-cond}
-use Rattle.definition.specs.Outcome.{Outcome}
-use Rattle.definition.specs.Step.{runsOkOf, first, onKernel, stateTests, stepTests}
-use Rattle.definition.specs.Calls.{launchFits, launchOf, releaseTests, releaseOf}
-use Rattle.promises.specs.Reached.{State}
-use Rattle.promises.specs.Refusals.{wordTest, instrAt, applies, Iff, StepTable, StepRows, StepRefusals, StepAnswers, RunAnswers, StepKeeps, LaunchRows, LaunchRefusals, ReleaseRefusals}
-use Rattle.promises.specs.Runs.{stateOf, runAt, tested, Iterates}
-use Rattle.promises.proofs.Word.{word-number}
-use Rattle.promises.proofs.Step.{split, is-zero, table-law, keeps-law}
-use Rattle.promises.proofs.Reached.{launch-on, launch-off, release-on, release-off}
-use Rattle.promises.proofs.Runs.{run-iterates, run-tests}
+use Rattle.definition.specs.State.{State}
+use Rattle.definition.specs.Refuse.{runsOkOf, stateTests, stepTests, lastOfStep}
+use Rattle.definition.specs.Step.{stepOf}
+use Rattle.definition.specs.Calls.{Ran, launchOf, stepsOf, runOf, releaseOf}
+use Rattle.definition.proofs.Tests as Tests
+use Rattle.definition.proofs.Calls.{turn-end, turn-on, turn-off}
+use Rattle.promises.specs.Refusals.{StepTable, StepRefusals, StepAnswers, RunAnswers, StepKeeps, LaunchRefusals, ReleaseRefusals}
+
+-- ---- a step
 
 pub step-table : StepTable
-step-table k w v d = table-law k w v d
+step-table k m = Tests.step-table k m
 
 pub step-keeps : StepKeeps
-step-keeps k w v d n = keeps-law k w v d n
+step-keeps k m n = Tests.step-keeps k m n
 
--- ---- one law for all rows
-
--- the tests of ts have numbers other than 0 and n
-abbrev others : ℕ → List (Row Bool) → Bool
-others n [] = true
-others n (t ∷ ts) = (not (eqb (t .code) 0) && not (eqb (t .code) n)) && others n ts
-
--- where ts has no n, n comes from what follows
-skip : (n : ℕ) (ts us : List (Row Bool)) → others n ts ≡ true → Iff (first (ts ++ us) ≡ n) ((first ts ≡ 0) × (first us ≡ n))
-skip n [] us o = ((λ e. (refl, e)), (λ e. e .1))
-skip n (t ∷ ts) us o =
-    let q = both (not (eqb (t .code) 0) && not (eqb (t .code) n)) (others n ts) o in
-    let r = both (not (eqb (t .code) 0)) (not (eqb (t .code) n)) (q .0) in
-    go (t .is) (eqb-false _ _ (not-true _ (r .0))) (eqb-false _ _ (not-true _ (r .1))) (skip n ts us (q .1))
-  where
-    go : (a : Bool) → (t .code ≡ 0 → ⊥) → (t .code ≡ n → ⊥) → Iff (first (ts ++ us) ≡ n) ((first ts ≡ 0) × (first us ≡ n))
-        → Iff (cond a (t .code) (first (ts ++ us)) ≡ n) ((cond a (t .code) (first ts) ≡ 0) × (first us ≡ n))
-    go true x y h = ((λ e. absurd (y e)), (λ e. absurd (x (e .0))))
-    go false x y h = h
-
--- n's own row, where it doesn't come later
-own : (n : ℕ) (b : Bool) (us : List (Row Bool)) → (first us ≡ n → ⊥) → Iff (first (n ⇒ b ∷ us) ≡ n) (b ≡ true)
-own n true us p = ((λ e. refl), (λ e. refl))
-own n false us p = ((λ e. absurd (p e)), (λ e. cc))
-
-last : (n : ℕ) (r : Row Bool) → (n ≡ 0 → ⊥) → Iff (first (r ∷ []) ≡ n) ((eqb (r .code) n && r .is) ≡ true)
-last n r z = go (r .is)
-  where
-    go : (b : Bool) → Iff (cond b (r .code) 0 ≡ n) ((eqb (r .code) n && b) ≡ true)
-    go true = ((λ e. rw (eq-eqb _ _ e)), (λ e. eqb-true _ _ (both (eqb (r .code) n) true e .0)))
-    go false = ((λ e. absurd (z (sym e))), (λ e. let x = both (eqb (r .code) n) false e .1 in cc))
-
-chained : {A B C D : Type 0} → Iff A (B × C) → Iff C D → Iff A (B × D)
-chained f g = ((λ a. (f .0 a .0, g .0 (f .0 a .1))), (λ x. f .1 (x .0, g .1 (x .1))))
-
-module _ (k : List ℕ) (w : Warp) (v d : List ℕ) where
-  abbrev r : Row Bool
-  r = wordTest (instrAt k w) w v d
-
-  -- rows 1 to 5: after the tests ts, before the tests us
-  early : (n : ℕ) (b : Bool) (ts us : List (Row Bool)) → others n ts ≡ true → others n us ≡ true → 0 < n → n < 6
-      → Iff (first (ts ++ (n ⇒ b ∷ (us ++ (r ∷ [])))) ≡ n) ((first ts ≡ 0) × (b ≡ true))
-  early n b ts us o q l h = chained (skip n ts (n ⇒ b ∷ (us ++ (r ∷ []))) o) (own n b (us ++ (r ∷ [])) (λ e. out (r .is) (skip n us (r ∷ []) q .0 e .1)))
-    where
-      out : (b : Bool) → cond b (r .code) 0 ≡ n → ⊥
-      out true e = omega (arith, word-number (instrAt k w) w v d .late (omega arith))
-      out false e = omega arith
-
-  -- rows 6 to 11: after all tests
-  late : (n : ℕ) → others n (stepTests k w v d) ≡ true → 0 < n → Iff (first (stepTests k w v d ++ (r ∷ [])) ≡ n) ((first (stepTests k w v d) ≡ 0) × (applies n (instrAt k w) w v d ≡ true))
-  late n o l = chained (skip n (stepTests k w v d) (r ∷ []) o) (last n r (λ z. omega arith))
-
-  abbrev tests : List (Row Bool)
-  tests = stepTests k w v d
-
-  rows : StepRows k w v d
-  rows =
-      record {
-        row1 = rw (table-law k w v d) (early 1 (not (runsOkOf (w .fixed) (length k) (length v) (length d))) (take 0 tests) (drop 1 tests) refl refl (lit≤ tt) (lit≤ tt));
-        row2 = rw (table-law k w v d) (early 2 (not (wellFormedOf w)) (take 1 tests) (drop 2 tests) refl refl (lit≤ tt) (lit≤ tt));
-        row3 = rw (table-law k w v d) (early 3 (w .ended) (take 2 tests) (drop 3 tests) refl refl (lit≤ tt) (lit≤ tt));
-        row4 = rw (table-law k w v d) (early 4 (w .waiting) (take 3 tests) (drop 4 tests) refl refl (lit≤ tt) (lit≤ tt));
-        row5 = rw (table-law k w v d) (early 5 (not (onKernel k w)) (take 4 tests) (drop 5 tests) refl refl (lit≤ tt) (lit≤ tt));
-        row6 = rw (table-law k w v d) (late 6 refl (lit≤ tt));
-        row7 = rw (table-law k w v d) (late 7 refl (lit≤ tt));
-        row8 = rw (table-law k w v d) (late 8 refl (lit≤ tt));
-        row9 = rw (table-law k w v d) (late 9 refl (lit≤ tt));
-        row10 = rw (table-law k w v d) (late 10 refl (lit≤ tt));
-        row11 = rw (table-law k w v d) (late 11 refl (lit≤ tt));
-      }
+-- none of the rows holds where the first that holds is none
+quiet : {A B : Type 0} (rs : List (Row Bool)) → without 0 rs ≡ true → Iff A ((silent rs ≡ true) × B) → Iff A ((first rs ≡ 0) × B)
+quiet rs z f = (λ a. (rw append-nil at (first-silent rs [] (f .0 a .0)), f .0 a .1), λ p. f .1 (zero-silent rs z (p .0), p .1))
 
 pub step-refusals : StepRefusals
-step-refusals k w v d = rows k w v d
-
--- ---- the numbers
-
-abbrev small : List (Row Bool) → Bool
-small [] = true
-small (t ∷ ts) = leb (t .code) 11 && small ts
-
-first-small : (ts us : List (Row Bool)) → small ts ≡ true → first us ≤ 11 → first (ts ++ us) ≤ 11
-first-small [] us s h = h
-first-small (t ∷ ts) us s h =
-    let p = both (leb (t .code) 11) (small ts) s in
-    by-cond (λ (n : ℕ). n ≤ 11) (t .is) (t .code) (first (ts ++ us)) (λ e. leb-true _ _ (p .0)) (λ e. first-small ts us (p .1) h)
+step-refusals k m =
+    record {
+      row1 = quiet (take 0 (stepTests k m)) refl (Tests.row1 k m);
+      row2 = quiet (take 1 (stepTests k m)) refl (Tests.row2 k m);
+      row3 = quiet (take 2 (stepTests k m)) refl (Tests.row3 k m);
+      row4 = quiet (take 3 (stepTests k m)) refl (Tests.row4 k m);
+      row5 = quiet (take 4 (stepTests k m)) refl (Tests.row5 k m);
+      own = λ n h. quiet (stepTests k m) refl (Tests.row-own k m n h);
+    }
 
 pub step-answers : StepAnswers
-step-answers k w v d =
-    rw (table-law k w v d) (first-small (stepTests k w v d) (wordTest (instrAt k w) w v d ∷ []) refl
-    (by-cond (λ (n : ℕ). n ≤ 11) (wordTest (instrAt k w) w v d .is) _ 0 (λ e. word-number (instrAt k w) w v d .small) (λ e. lit≤ tt)))
+step-answers k m = Tests.step-known k m
+
+-- ---- a run
+
+pub is-zero : {A : Type 0} (n : ℕ) → (n ≡ 0 → A) → ((n ≡ 0 → ⊥) → A) → A
+is-zero {A = A} n f g = go (eqb n 0) refl
+  where
+    go : (t : Bool) → eqb n 0 ≡ t → A
+    go true e = f (eqb-true n 0 e)
+    go false e = g (eqb-false n 0 e)
+
+steps-answer : (k : List ℕ) (n t : ℕ) (m : State) → stepsOf k n t m .ends .code ≤ lastOfStep
+steps-answer k zero t m = rw (turn-end k t m) (lit≤ tt)
+steps-answer k (suc n) t m =
+    is-zero (stepOf k m .code) (λ z. rw (turn-on k n t m z) (steps-answer k n (t + 1) (stepOf k m .left))) (λ z. rw (turn-off k n t m z) (step-answers k m))
 
 pub run-answers : RunAnswers
-run-answers k n w v d = is-zero (tested k s) passes (λ z. rw (run-tests k n s z) (first-small (stateTests k w v d) [] refl (lit≤ tt)))
-  where
-    s : State
-    s = record { warp = w; vector = v; bytes = d }
+unfolding runOf
+run-answers k n m =
+    by-cond (λ (r : Ran). r .ends .code ≤ lastOfStep) (eqb (first (stateTests k m)) 0) _ _ (λ z. steps-answer k n 0 m) (λ z. numbered-le 1 lastOfStep (stateTests k m) refl)
 
-    passes : tested k s ≡ 0 → runAt k n s .left .code ≤ 11
-    passes z =
-        let r : Iterates k n s (runAt k n s) = run-iterates k n s z in
-        let u : State = stateOf (runAt k n s .left) in
-        is-zero (runAt k n s .left .code) (λ e. omega arith)
-        (λ e. rw (← ap (λ (o : Outcome). o .code) (r .refused e)) (step-answers k (u .warp) (u .vector) (u .bytes)))
+-- ---- a launch and a release, by what their two tests say
 
--- ---- launch and release
+yes : {A B : Type 0} → A → B → Iff A B
+yes a b = (λ x. b, λ x. a)
+
+no : {A B : Type 0} → (A → ⊥) → (B → ⊥) → Iff A B
+no a b = (λ x. absurd (a x), λ x. absurd (b x))
+
+wrong : false ≡ true → ⊥
+wrong e = true≢false (sym e)
+
+record Launches (fits : Bool) (n : ℕ) : Type 0 where
+  row0 : Iff (n ≡ 0) (fits ≡ true)
+  row1 : Iff (n ≡ 1) (fits ≡ false)
+  answers : (n ≡ 0 → ⊥) → n ≡ 1
+
+refuses : Launches false 1
+refuses = record { row0 = no (λ e. omega arith) wrong; row1 = yes refl refl; answers = λ z. refl }
+
+launches : (a b : Bool) → Launches (a && b) (first (1 ⇒ not a ∷ 1 ⇒ not b ∷ []))
+launches true true = record { row0 = yes refl refl; row1 = no (λ e. omega arith) true≢false; answers = λ z. absurd (z refl) }
+launches true false = refuses
+launches false b = refuses
 
 pub launch-refusals : LaunchRefusals
-launch-refusals k l v d = split (launchFits k l v d) fits breaks
-  where
-    fits : launchFits k l v d ≡ true → LaunchRows k l v d
-    fits t =
-        let c : launchOf k l v d .code ≡ 0 = ap (λ (o : Outcome). o .code) (launch-on k l v d t) in
-        record { row0 = ((λ e. t), (λ e. c)); row1 = ((λ e. absurd (omega arith)), (λ e. cc)); answers = omega arith; keeps = λ n. absurd (n c); gives = λ e. launch-on k l v d t }
+unfolding launchOf
+launch-refusals k l v d =
+    let r = launches (runsOkOf (l .fixed) k v d) (launchOkOf l) in
+    record { row0 = r .row0; row1 = r .row1; answers = r .answers; keeps = λ n. rw (ne-eqb _ _ n, r .answers n); gives = λ z. rw (eq-eqb _ _ z, z) }
 
-    breaks : launchFits k l v d ≡ false → LaunchRows k l v d
-    breaks t =
-        let c : launchOf k l v d .code ≡ 1 = ap (λ (o : Outcome). o .code) (launch-off k l v d t) in
-        record { row0 = ((λ e. absurd (omega arith)), (λ e. cc)); row1 = ((λ e. t), (λ e. c)); answers = omega arith; keeps = λ n. launch-off k l v d t; gives = λ e. absurd (omega arith) }
-
--- the number of a release, by its two tests
-release-code : (w : Warp) → releaseOf w .code ≡ first (releaseTests w)
-release-code w =
-    is-zero (first (releaseTests w)) (λ z. ap (λ (a : Answer). a .code) (release-on w z) ∙ sym z) (λ z. ap (λ (a : Answer). a .code) (release-off w z))
-
--- the rows of a release, by what its two tests say
-record Two (a b : Bool) (n : ℕ) : Type 0 where
+record Releases (a b : Bool) (n : ℕ) : Type 0 where
   row0 : Iff (n ≡ 0) ((a ≡ true) × (b ≡ true))
   row2 : Iff (n ≡ 2) (a ≡ false)
   row12 : Iff (n ≡ 12) ((a ≡ true) × (b ≡ false))
   answers : (n ≡ 0 → ⊥) → (n ≡ 2 → ⊥) → n ≡ 12
 
-two : (a b : Bool) → Two a b (first (2 ⇒ not a ∷ 12 ⇒ not b ∷ []))
-two true true =
-    record {
-      row0 = ((λ e. (refl, refl)), (λ e. refl));
-      row2 = ((λ e. absurd (omega arith)), (λ e. cc));
-      row12 = ((λ e. absurd (omega arith)), (λ e. let x = e .1 in cc));
-      answers = λ p q. absurd (p refl);
-    }
-two true false =
-    record {
-      row0 = ((λ e. absurd (omega arith)), (λ e. let x = e .1 in cc));
-      row2 = ((λ e. absurd (omega arith)), (λ e. cc));
-      row12 = ((λ e. (refl, refl)), (λ e. refl));
-      answers = λ p q. refl;
-    }
-two false b =
-    record {
-      row0 = ((λ e. absurd (omega arith)), (λ e. let x = e .0 in cc));
-      row2 = ((λ e. refl), (λ e. refl));
-      row12 = ((λ e. absurd (omega arith)), (λ e. let x = e .0 in cc));
-      answers = λ p q. absurd (q refl);
-    }
+released : (a b : Bool) → Releases a b (first (2 ⇒ not a ∷ 12 ⇒ not b ∷ []))
+released true true =
+    record { row0 = yes refl (refl, refl); row2 = no (λ e. omega arith) true≢false; row12 = no (λ e. omega arith) (λ e. true≢false (e .1)); answers = λ p q. absurd (p refl) }
+released true false =
+    record { row0 = no (λ e. omega arith) (λ e. wrong (e .1)); row2 = no (λ e. omega arith) true≢false; row12 = yes refl (refl, refl); answers = λ p q. refl }
+released false b =
+    record { row0 = no (λ e. omega arith) (λ e. wrong (e .0)); row2 = yes refl refl; row12 = no (λ e. omega arith) (λ e. wrong (e .0)); answers = λ p q. absurd (q refl) }
 
 pub release-refusals : ReleaseRefusals
+unfolding releaseOf
 release-refusals w =
-    let r : Two (wellFormedOf w) (w .waiting) (releaseOf w .code) = rw (release-code w) (two (wellFormedOf w) (w .waiting)) in
-    record {
-      row0 = r .row0;
-      row2 = r .row2;
-      row12 = r .row12;
-      answers = r .answers;
-      keeps = λ n. release-off w (λ z. n (release-code w ∙ z)) ∙ ap (λ (c : ℕ). answer c w) (sym (release-code w));
-      gives = λ e. release-on w (sym (release-code w) ∙ e);
-    }
+    let r = released (wellFormedOf w) (w .waiting) in
+    record { row0 = r .row0; row2 = r .row2; row12 = r .row12; answers = r .answers; keeps = λ n. rw (ne-eqb _ _ n); gives = λ z. rw (eq-eqb _ _ z, z) }

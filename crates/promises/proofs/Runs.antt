@@ -1,63 +1,48 @@
 -- Demand 2: a run is the iteration of the step.
 use Prim.Native.Nat.{ℕ, zero, suc, _+_}
 use mathlib.Core.Path.{_≡_, refl, sym, _∙_, ap}
-use mathlib.Core.Bool.{Bool, true, false, not}
+use mathlib.Core.Bool.{not}
 use mathlib.Core.List.{List, [], _∷_}
 use native.Mathlib.Omega.{arith}
 use native.Mathlib.Nat.{zero-add, add-zero, suc-add}
 use lib.ListN.{length}
 use borrow.Author.Tests.{eq-eqb, ne-eqb}
-use Rattle.isa.specs.Table.{_⇒_}
+use Rattle.answer.specs.Rows.{_⇒_}
+use Rattle.answer.proofs.Rows.{passed}
 use Rattle.warp.specs.declared.Launch.{Launch}
 use Rattle.warp.specs.Warp.{splitCount}
 use Rattle.warp.specs.WellFormed.{wellFormedOf}
-use Rattle.definition.specs.Outcome.{Outcome, outcome}
-use Rattle.definition.specs.Step.{runsOkOf, first}
+use Rattle.definition.specs.State.{State, Outcome, outcome, fixedOf}
+use Rattle.definition.specs.Refuse.{runsOkOf}
+use Rattle.definition.specs.Step.{stepOf}
 use Rattle.definition.specs.Calls.{Ran, ran, stepsOf, runOf}
-use Rattle.promises.specs.Reached.{State, stepAt, leaving, steps, Reached, goes, Accepted}
-use Rattle.promises.specs.Runs.{stateOf, runAt, tested, Steps, start, more, Iterates, RunIterates, RunTests, RunZero, StepsFixed, RunFixed, RunMore, RunReaches}
-use Rattle.promises.proofs.Step.{is-zero, keeps-law}
+use Rattle.definition.proofs.Calls.{turn-end, turn-on, turn-off}
+use Rattle.promises.specs.Reached.{steps, Reached, goes}
+use Rattle.promises.specs.Runs.{tested, Steps, start, more, Iterates, RunIterates, RunTests, RunZero, StepsFixed, RunFixed, RunMore, RunReaches}
+use Rattle.promises.proofs.Refusals.{is-zero, step-keeps}
 use Rattle.promises.proofs.Reached.{Fit, fit, goes-fit, reached-sound, never-malformed}
 
--- ---- one step of a run
-
-abbrev turns : List ℕ → ℕ → ℕ → State → Ran
-turns k n t s = stepsOf k n t (s .warp) (s .vector) (s .bytes)
-
-module _ (k : List ℕ) (n t : ℕ) (s : State) where
-  turn-on : stepAt k s .code ≡ 0 → turns k (suc n) t s ≡ turns k n (t + 1) (stateOf (stepAt k s))
-  unfolding stepsOf
-  turn-on z = rw (eq-eqb _ _ z)
-
-  turn-off : (stepAt k s .code ≡ 0 → ⊥) → turns k (suc n) t s ≡ ran t (outcome (stepAt k s .code) (s .warp) (s .vector) (s .bytes))
-  unfolding stepsOf
-  turn-off z = rw (ne-eqb _ _ z)
-
-turn-end : (k : List ℕ) (t : ℕ) (s : State) → turns k 0 t s ≡ ran t (leaving s)
-unfolding stepsOf
-turn-end k t s = refl
-
 -- a step answered 0
-answered : (k : List ℕ) (s : State) → stepAt k s .code ≡ 0 → stepAt k s ≡ leaving (stateOf (stepAt k s))
-answered k s z = ap (λ (c : ℕ). outcome c (stepAt k s .warp) (stepAt k s .vector) (stepAt k s .bytes)) z
+answered : (k : List ℕ) (s : State) → stepOf k s .code ≡ 0 → stepOf k s ≡ outcome 0 (stepOf k s .left)
+answered k s z = ap (λ (c : ℕ). outcome c (stepOf k s .left)) z
 
 module _ (k : List ℕ) where
   -- the run of at most n steps more, where t steps led from s to u
-  iterates : (n t : ℕ) (s u : State) → Steps k t s u → Iterates k (t + n) s (turns k n t u)
+  iterates : (n t : ℕ) (s u : State) → Steps k t s u → Iterates k (t + n) s (stepsOf k n t u)
   iterates zero t s u p = rw (turn-end k t u) (record { taken = p; whole = λ z. omega arith; early = λ z. absurd (z refl); refused = λ z. absurd (z refl) })
   iterates (suc n) t s u p =
-      is-zero (stepAt k u .code)
-      (λ z. let e : t + suc n ≡ t + 1 + n = omega arith in rw (turn-on k n t u z, e) (iterates n (t + 1) s (stateOf (stepAt k u)) (more p (answered k u z))))
-      (λ z. rw (turn-off k n t u z) (record { taken = p; whole = λ e. absurd (z e); early = λ e. omega arith; refused = λ e. keeps-law k (u .warp) (u .vector) (u .bytes) z }))
+      is-zero (stepOf k u .code)
+      (λ z. let e : t + suc n ≡ t + 1 + n = omega arith in rw (turn-on k n t u z, e) (iterates n (t + 1) s (stepOf k u .left) (more p (answered k u z))))
+      (λ z. rw (turn-off k n t u z, step-keeps k u z) (record { taken = p; whole = λ e. absurd (z e); early = λ e. omega arith; refused = λ e. step-keeps k u z }))
 
 -- ---- a run
 
 module _ (k : List ℕ) (n : ℕ) (s : State) where
-  run-on : tested k s ≡ 0 → runAt k n s ≡ turns k n 0 s
+  run-on : tested k s ≡ 0 → runOf k n s ≡ stepsOf k n 0 s
   unfolding runOf
   run-on z = rw (eq-eqb _ _ z)
 
-  run-off : (tested k s ≡ 0 → ⊥) → runAt k n s ≡ ran 0 (outcome (tested k s) (s .warp) (s .vector) (s .bytes))
+  run-off : (tested k s ≡ 0 → ⊥) → runOf k n s ≡ ran 0 (outcome (tested k s) s)
   unfolding runOf
   run-off z = rw (ne-eqb _ _ z)
 
@@ -68,37 +53,37 @@ pub run-tests : RunTests
 run-tests k n s z = run-off k n s z
 
 pub run-zero : RunZero
-run-zero k s = is-zero (tested k s) (λ z. run-on k 0 s z ∙ turn-end k 0 s ∙ ap (λ (c : ℕ). ran 0 (outcome c (s .warp) (s .vector) (s .bytes))) (sym z)) (λ n. run-off k 0 s n)
+run-zero k s = is-zero (tested k s) (λ z. run-on k 0 s z ∙ turn-end k 0 s ∙ ap (λ (c : ℕ). ran 0 (outcome c s)) (sym z)) (λ n. run-off k 0 s n)
 
 -- ---- the state after each count
 
 module _ (k : List ℕ) where
-  turns-more : (n m t : ℕ) (s : State) → turns k n t s .left .code ≡ 0 → turns k (n + m) t s ≡ turns k m (turns k n t s .steps) (stateOf (turns k n t s .left))
+  turns-more : (n m t : ℕ) (s : State) → stepsOf k n t s .ends .code ≡ 0 → stepsOf k (n + m) t s ≡ stepsOf k m (stepsOf k n t s .steps) (stepsOf k n t s .ends .left)
   turns-more zero m t s h = rw (turn-end k t s, zero-add)
   turns-more (suc n) m t s h =
-      is-zero (stepAt k s .code)
-      (λ z. rw (suc-add n m, turn-on k (n + m) t s z, turn-on k n t s z) (turns-more n m (t + 1) (stateOf (stepAt k s)) (rw (turn-on k n t s z) at h)))
+      is-zero (stepOf k s .code)
+      (λ z. rw (suc-add n m, turn-on k (n + m) t s z, turn-on k n t s z) (turns-more n m (t + 1) (stepOf k s .left) (rw (turn-on k n t s z) at h)))
       (λ z. absurd (z (rw (turn-off k n t s z) at h)))
 
-  turns-fixed : (t : ℕ) (s u : State) → Steps k t s u → turns k t 0 s ≡ ran t (leaving u)
+  turns-fixed : (t : ℕ) (s u : State) → Steps k t s u → stepsOf k t 0 s ≡ ran t (outcome 0 u)
   turns-fixed t s u start = turn-end k 0 s
   turns-fixed t s u (more {t = n} {u = x} p q) =
-      let h : turns k n 0 s ≡ ran n (leaving x) = turns-fixed n s x p in
-      let z : stepAt k x .code ≡ 0 = ap (λ (o : Outcome). o .code) q in
-      turns-more n 1 0 s (rw h refl) ∙ rw h (turn-on k 0 n x z ∙ turn-end k (n + 1) (stateOf (stepAt k x)) ∙ ap (λ (o : Outcome). ran (n + 1) (leaving (stateOf o))) q)
+      let h : stepsOf k n 0 s ≡ ran n (outcome 0 x) = turns-fixed n s x p in
+      let z : stepOf k x .code ≡ 0 = ap (λ (o : Outcome). o .code) q in
+      turns-more n 1 0 s (rw h refl) ∙ rw h (turn-on k 0 n x z ∙ turn-end k (n + 1) (stepOf k x .left) ∙ ap (λ (o : Outcome). ran (n + 1) (outcome 0 (o .left))) q)
 
-  shifted : (n a t : ℕ) (s : State) → turns k n (a + t) s ≡ ran (a + turns k n t s .steps) (turns k n t s .left)
+  shifted : (n a t : ℕ) (s : State) → stepsOf k n (a + t) s ≡ ran (a + stepsOf k n t s .steps) (stepsOf k n t s .ends)
   shifted zero a t s = rw (turn-end k t s) (turn-end k (a + t) s)
   shifted (suc n) a t s =
-      is-zero (stepAt k s .code)
-      (λ z. let e : a + t + 1 ≡ a + (t + 1) = omega arith in rw (turn-on k n (a + t) s z, turn-on k n t s z, e) (shifted n a (t + 1) (stateOf (stepAt k s))))
+      is-zero (stepOf k s .code)
+      (λ z. let e : a + t + 1 ≡ a + (t + 1) = omega arith in rw (turn-on k n (a + t) s z, turn-on k n t s z, e) (shifted n a (t + 1) (stepOf k s .left)))
       (λ z. rw (turn-off k n (a + t) s z, turn-off k n t s z))
 
 pub run-fixed : RunFixed
 run-fixed k t s u z p = run-on k t s z ∙ turns-fixed k t s u p
 
 pub steps-fixed : StepsFixed
-steps-fixed k t s u x p q = ap (λ (r : Ran). stateOf (r .left)) (sym (turns-fixed k t s u p) ∙ turns-fixed k t s x q)
+steps-fixed k t s u x p q = ap (λ (r : Ran). r .ends .left) (sym (turns-fixed k t s u p) ∙ turns-fixed k t s x q)
 
 -- ---- two runs
 
@@ -110,24 +95,22 @@ fit-tested : (k : List ℕ) (s : State) → Fit k s → tested k s ≡ 0
 fit-tested k s f = rw (f .runs, f .formed)
 
 tested-fit : (k : List ℕ) (s : State) → length (s .warp .splits) ≡ splitCount → tested k s ≡ 0 → Fit k s
-tested-fit k s n z = go (runsOkOf (s .warp .fixed) (length k) (length (s .vector)) (length (s .bytes))) (wellFormedOf (s .warp)) refl refl z
-  where
-    go : (a b : Bool) → runsOkOf (s .warp .fixed) (length k) (length (s .vector)) (length (s .bytes)) ≡ a → wellFormedOf (s .warp) ≡ b → first (1 ⇒ not a ∷ 2 ⇒ not b ∷ []) ≡ 0 → Fit k s
-    go true true r f h = record { formed = f; splits = n; runs = r }
-    go true false r f h = absurd (omega arith)
-    go false b r f h = absurd (omega arith)
+tested-fit k s n z =
+    let a = runsOkOf (fixedOf s) k (s .vector) (s .bytes) in
+    let b = wellFormedOf (s .warp) in
+    record { formed = passed (1 ⇒ not a ∷ []) [] 2 b refl z; splits = n; runs = passed [] (2 ⇒ not b ∷ []) 1 a refl z }
 
-pub run-tested : (k : List ℕ) (n : ℕ) (s : State) → runAt k n s .left .code ≡ 0 → tested k s ≡ 0
+run-tested : (k : List ℕ) (n : ℕ) (s : State) → runOf k n s .ends .code ≡ 0 → tested k s ≡ 0
 run-tested k n s h = is-zero (tested k s) (λ z. z) (λ z. absurd (z (rw (run-off k n s z) at h)))
 
 pub run-more : RunMore
 run-more k n m s long h =
     let z : tested k s ≡ 0 = run-tested k n s h in
-    let r : Iterates k n s (runAt k n s) = run-iterates k n s z in
-    let u : State = stateOf (runAt k n s .left) in
-    let y : tested k u ≡ 0 = fit-tested k u (steps-fit k (runAt k n s .steps) s u (tested-fit k s long z) (r .taken)) in
-    let e : runAt k n s ≡ turns k n 0 s = run-on k n s z in
-    run-on k (n + m) s z ∙ turns-more k n m 0 s (rw e at h) ∙ rw (← e, run-on k m u y) (rw (add-zero (runAt k n s .steps)) at (shifted k m (runAt k n s .steps) 0 u))
+    let r : Iterates k n s (runOf k n s) = run-iterates k n s z in
+    let u : State = runOf k n s .ends .left in
+    let y : tested k u ≡ 0 = fit-tested k u (steps-fit k (runOf k n s .steps) s u (tested-fit k s long z) (r .taken)) in
+    let e : runOf k n s ≡ stepsOf k n 0 s = run-on k n s z in
+    run-on k (n + m) s z ∙ turns-more k n m 0 s (rw e at h) ∙ rw (← e, run-on k m u y) (rw (add-zero (runOf k n s .steps)) at (shifted k m (runOf k n s .steps) 0 u))
 
 -- ---- a run from a reached state
 
@@ -137,10 +120,9 @@ steps-reached k l t s u r (more {t = n} {u = x} p q) = goes (steps-reached k l n
 
 pub run-reaches : RunReaches
 run-reaches k l n s r =
-    let z : tested k s ≡ 0 = fit-tested k s (fit k l s (reached-sound k l s r)) in
-    let i : Iterates k n s (runAt k n s) = run-iterates k n s z in
-    let h : Reached k l (stateOf (runAt k n s .left)) = steps-reached k l (runAt k n s .steps) s _ r (i .taken) in
-    let a : Accepted k (stateOf (runAt k n s .left)) = never-malformed k l _ h in
+    let i = run-iterates k n s (fit-tested k s (fit k l s (reached-sound k l s r))) in
+    let h : Reached k l (runOf k n s .ends .left) = steps-reached k l (runOf k n s .steps) s _ r (i .taken) in
+    let a = never-malformed k l _ h in
     record {
       reached = h;
       not1 = λ e. a .step1 (ap (λ (o : Outcome). o .code) (i .refused (λ z. omega arith)) ∙ e);

@@ -1,33 +1,35 @@
 -- Demand 3, the splits.
-use Prim.Native.Nat.{ℕ, _+_, _-_, _%_, _≤_, _<_}
+use Prim.Native.Nat.{ℕ, _+_, _-_, _≤_, _<_}
 use mathlib.Core.Path.{_≡_, refl, sym, _∙_, ap}
 use mathlib.Core.List.{List}
 use native.Mathlib.Omega.{arith}
 use lib.Dec.{eqb}
 use lib.ListN.{length}
 use lib.Seq.{getD-set-same}
+use Rattle.word.specs.Word.{holdsOf}
 use Rattle.word.specs.declared.Cond.{Cond}
+use Rattle.isa.specs.declared.CsrOp.{CsrOp}
+use Rattle.isa.specs.declared.XReg.{XReg}
 use Rattle.isa.specs.declared.VReg.{VReg}
 use Rattle.isa.specs.declared.Instr.{Instr}
 use Rattle.isa.specs.declared.Instr.the-variants as I
 use Rattle.lanes.specs.Mask.{bitAt}
-use Rattle.lanes.specs.Lanes.{maskOf, wantsOf}
 use Rattle.warp.specs.declared.Launch.{Launch}
 use Rattle.warp.specs.declared.Split.{Split}
 use Rattle.warp.specs.declared.Warp.{Warp}
-use Rattle.warp.specs.Warp.{splitCount, zeroSplit, nextPc, Answer}
-use Rattle.warp.specs.Splits.{opened, openOf, vbranchOf, lastSplit, joinOf}
-use Rattle.warp.specs.SplitLaws.{by-cond, vbranch-opens, vbranch-refused}
+use Rattle.warp.specs.Warp.{splitCount, zeroSplit, nextPc, next, writeX}
+use Rattle.warp.specs.Splits.{opened, openOf, parted, lastSplit, joinOf, setRpcOf}
+use Rattle.warp.specs.SplitLaws.{by-cond, parted-opens}
+use Rattle.warp.specs.Csr.{isPrint, writesOf, csrAt, csrDone}
 use Rattle.warp.specs.Moves as M
 use Rattle.warp.specs.Formed.{formed, depth-le, held-of}
-use Rattle.definition.specs.Outcome.{Outcome, effect, goes}
-use Rattle.definition.specs.Exec.{pcOffset, effectOf, execOf}
-use Rattle.promises.specs.Reached.{State, stepAt, leaving, steps, Sound}
-use Rattle.promises.specs.Refusals.{instrAt}
-use Rattle.promises.specs.Splits.{elseLanes, Disagree, Opens, SplitCuts, SplitWhen, Covered, Fewer, Room, OneLane, Above, here, on, Restored}
-use Rattle.promises.proofs.Word.{Opener, none, branch, word-exec}
-use Rattle.promises.proofs.Step.{is-zero, taken-exec}
-use Rattle.promises.proofs.Reached.{modest, fit, goes-moves, goes-sound, reached-sound}
+use Rattle.definition.specs.State.{State, Outcome, outcome, pcBy, xOf, elseOf, instrAt}
+use Rattle.definition.specs.Exec.{effect, effectOf}
+use Rattle.definition.specs.Step.{stepOf}
+use Rattle.definition.proofs.Sound.{step-taken}
+use Rattle.promises.specs.Reached.{steps, Sound}
+use Rattle.promises.specs.Splits.{Disagree, Opens, SplitCuts, SplitWhen, Covered, Fewer, Room, OneLane, Above, here, on, Restored}
+use Rattle.promises.proofs.Reached.{fit, carried, goes-sound, reached-sound}
 
 held-at : (k : List ℕ) (l : Launch) (s : State) → Sound k l s → M.Held (s .warp)
 held-at k l s g = held-of (s .warp) (formed (s .warp) (g .splits) (g .formed))
@@ -50,15 +52,80 @@ room k l s r = depth-le (s .warp) (reached-sound k l s r .formed)
 pub one-lane : OneLane
 one-lane k l s r o = omega (arith, fewer k l s r)
 
--- ---- a split opens
+-- ---- which instruction opens a split
 
-join-le : (w : Warp) → joinOf w .depth ≤ w .depth
+data Opener (s : State) (i : Instr) (u : Warp) : Type 0 where
+  none : u .depth ≤ s .warp .depth → Opener s i u
+  branch : (c : Cond) (a b : VReg) (n : ℕ) → i ≡ I.VBranch c a b n → u ≡ openOf (elseOf c a b s) (pcBy 13 n s) (s .warp) → Opener s i u
+
+-- JOIN closes one split at most
+record Joined (before after : ℕ) : Type 0 where
+  most : after ≤ before
+  least : before ≤ after + 1
+
+joined : (w : Warp) → Joined (w .depth) (joinOf w .depth)
 unfolding joinOf
-join-le w =
-    by-cond (λ (u : Warp). u .depth ≤ w .depth) (eqb (w .depth) 0) _ _ (λ z. omega arith)
-    (λ z. by-cond (λ (u : Warp). u .depth ≤ w .depth) (eqb (w .pc) (lastSplit w .rpc)) _ _
-    (λ q. by-cond (λ (u : Warp). u .depth ≤ w .depth) (lastSplit w .phasetwo) _ _ (λ s. omega arith) (λ s. omega arith))
-    (λ q. omega arith))
+joined w =
+    by-cond (λ (u : Warp). Joined (w .depth) (u .depth)) (eqb (w .depth) 0) _ _ (λ z. same)
+    (λ z. by-cond (λ (u : Warp). Joined (w .depth) (u .depth)) (eqb (w .pc) (lastSplit w .rpc)) _ _
+    (λ q. by-cond (λ (u : Warp). Joined (w .depth) (u .depth)) (lastSplit w .phasetwo) _ _ (λ p. record { most = omega arith; least = omega arith }) (λ p. same))
+    (λ q. same))
+  where
+    same : Joined (w .depth) (w .depth)
+    same = record { most = omega arith; least = omega arith }
+
+module _ (s : State) where
+  abbrev W : Warp
+  W = s .warp
+
+  stays : (i : Instr) (u : Warp) → u .depth ≡ W .depth → Opener s i u
+  stays i u e = none (omega arith)
+
+  csr : (i : Instr) (o : CsrOp) (n : ℕ) (r : XReg) (a y : ℕ) → Opener s i (csrDone o n r a y W)
+  unfolding csrDone
+  csr i o n r a y =
+      by-cond (λ (u : Warp). Opener s i (next (writeX r (csrAt n W) u))) (writesOf o a) _ _
+      (λ e. by-cond (λ (u : Warp). Opener s i (next (writeX r (csrAt n W) u))) (isPrint n) _ _ (λ p. stays i _ refl) (λ p. stays i _ refl)) (λ e. stays i _ refl)
+
+  setrpc : (i : Instr) (r a : XReg) (n : ℕ) → Opener s i (setRpcOf r a n W)
+  unfolding setRpcOf
+  setrpc i r a n = stays i _ refl
+
+  vbranch : (c : Cond) (a b : VReg) (n : ℕ) → Opener s (I.VBranch c a b n) (parted (elseOf c a b s) (pcBy 13 n s) W)
+  unfolding parted
+  vbranch c a b n =
+      by-cond (Opener s _) (eqb (elseOf c a b s) 0) _ _ (λ z. stays _ _ refl)
+      (λ z. by-cond (Opener s _) (eqb (elseOf c a b s) (W .mask)) _ _ (λ e. stays _ _ refl) (λ e. branch c a b n refl refl))
+
+  opener : (i : Instr) → Opener s i (effect (effectOf i s) s .warp)
+  unfolding effectOf
+  opener I.Refused = stays _ _ refl
+  opener (I.Lui r n) = stays _ _ refl
+  opener (I.Auipc r n) = stays _ _ refl
+  opener (I.Jal r n) = stays _ _ refl
+  opener (I.Jalr r a n) = stays _ _ refl
+  opener (I.Branch c a b n) = by-cond (Opener s _) (holdsOf c (xOf a s) (xOf b s)) _ _ (λ t. stays _ _ refl) (λ t. stays _ _ refl)
+  opener (I.Load k r a n) = stays _ _ refl
+  opener (I.Store k a b n) = stays _ _ refl
+  opener (I.OpImm o r a n) = stays _ _ refl
+  opener (I.OpReg o r a b) = stays _ _ refl
+  opener (I.Fence r a n) = stays _ _ refl
+  opener (I.Csr o r a n) = csr _ o n r _ _
+  opener (I.CsrImm o r i n) = csr _ o n r _ _
+  opener (I.Vector o a) = stays _ _ refl
+  opener (I.VMove r a) = stays _ _ refl
+  opener (I.VMoveXS r b) = stays _ _ refl
+  opener (I.VMoveSX r a) = stays _ _ refl
+  opener (I.Vid r) = stays _ _ refl
+  opener (I.VBranch c a b n) = vbranch c a b n
+  opener I.Join = none (joined W .most)
+  opener (I.SetRpc r a n) = setrpc _ r a n
+  opener I.EndPrg = stays _ _ refl
+  opener (I.Barrier n) = stays _ _ refl
+  opener (I.VLoad e k r a n) = stays _ _ refl
+  opener (I.VStore e k a b n) = stays _ _ refl
+
+-- ---- a split opens
 
 -- a move that opens a split
 data Widens (w u : Warp) : Type 0 where
@@ -66,90 +133,83 @@ data Widens (w u : Warp) : Type 0 where
 
 widening : (w u : Warp) → M.Moves w u → u .depth ≡ w .depth + 1 → Widens w u
 widening w u (M.opens e p c q) d = widens e p c q
-widening w u (M.joins q) d = absurd (omega (arith, ap (λ (x : Warp). x .depth) q, join-le w))
+widening w u (M.joins q) d = absurd (omega (arith, ap (λ (x : Warp). x .depth) q, joined w .most))
 widening w u (M.leaves x) d = absurd (omega (arith, x .depth))
 
-last-opened : (e p : ℕ) (w : Warp) → w .depth < length (w .splits) → lastSplit (openOf e p w) ≡ opened e p w
+record Opened (e p : ℕ) (w u : Warp) : Type 0 where
+  depth : u .depth ≡ w .depth + 1
+  mask : u .mask ≡ w .mask - e
+  pc : u .pc ≡ nextPc w
+  last : w .depth < length (w .splits) → lastSplit u ≡ opened e p w
+
+opening : (e p : ℕ) (w : Warp) → Opened e p w (openOf e p w)
 unfolding openOf
-last-opened e p w h = let d : w .depth + 1 - 1 ≡ w .depth = omega arith in rw d (getD-set-same (w .splits) (w .depth) (opened e p w) zeroSplit h)
+opening e p w =
+    let d : w .depth + 1 - 1 ≡ w .depth = omega arith in
+    record { depth = refl; mask = refl; pc = refl; last = λ h. rw d (getD-set-same (w .splits) (w .depth) (opened e p w) zeroSplit h) }
 
-open-mask : (e p : ℕ) (w : Warp) → openOf e p w .mask ≡ w .mask - e
-unfolding openOf
-open-mask e p w = refl
+module _ (k : List ℕ) (l : Launch) (s t : State) (g : Sound k l s) (q : stepOf k s ≡ outcome 0 t) where
+  -- what the instruction has done
+  done : t .warp ≡ effect (effectOf (instrAt k s) s) s .warp
+  done = ap (λ (o : Outcome). o .left .warp) (sym q) ∙ ap (λ (m : State). m .warp) (step-taken k s (ap (λ (o : Outcome). o .code) q))
 
-open-pc : (e p : ℕ) (w : Warp) → openOf e p w .pc ≡ nextPc w
-unfolding openOf
-open-pc e p w = refl
+  module _ (d : t .warp .depth ≡ s .warp .depth + 1) where
+    wide : Widens (s .warp) (t .warp)
+    wide = widening (s .warp) (t .warp) (carried k s t (fit k l s g) (steps q) .moves) d
 
-module _ (k : List ℕ) (l : Launch) (s t : State) (g : Sound k l s) (q : stepAt k s ≡ leaving t) (d : t .warp .depth ≡ s .warp .depth + 1) where
-  wide : Widens (s .warp) (t .warp)
-  wide = widening (s .warp) (t .warp) (goes-moves k s t (fit k l s g) (steps q)) d
+    cuts-in-two : Widens (s .warp) (t .warp) → (s .warp .depth < splitCount) × M.CutInTwo (s .warp .mask) (lastSplit (t .warp) .elsemask) (t .warp .mask)
+    cuts-in-two (widens e p c u) = (M.fits e p (s .warp) (held-at k l s g) c, rw u (M.split-cuts e p (s .warp) (held-at k l s g) c))
 
-  opener : Opener (instrAt k (s .warp)) (s .warp) (s .vector) (t .warp)
-  opener =
-      rw (← ap (λ (o : Outcome). o .warp) (sym q ∙ taken-exec k (s .warp) (s .vector) (s .bytes) (ap (λ (o : Outcome). o .code) q))) at
-      (word-exec (s .warp) (s .vector) (s .bytes) (instrAt k (s .warp)) .opener)
+    opens : Opener s (instrAt k s) (t .warp) → Opens k s t
+    opens (none n) = absurd (omega arith)
+    opens (branch c a b n i u) =
+        let m = cuts-in-two wide in
+        let o : Opened (elseOf c a b s) (pcBy 13 n s) (s .warp) (t .warp) = rw u (opening (elseOf c a b s) (pcBy 13 n s) (s .warp)) in
+        let f = o .last (omega (arith, g .splits, m .0)) in
+        let e : lastSplit (t .warp) .elsemask ≡ elseOf c a b s = ap (λ (x : Split). x .elsemask) f in
+        record {
+          by = record { cond = c; left = a; right = b; offset = n; word = i; some = λ z. omega (arith, m .1 .one, e); notall = λ z. omega (arith, m .1 .other, o .mask) };
+          split = f;
+          cut = m .1;
+          first = o .pc;
+        }
 
-  cuts-in-two : Widens (s .warp) (t .warp) → (s .warp .depth < splitCount) × M.CutInTwo (s .warp .mask) (lastSplit (t .warp) .elsemask) (t .warp .mask)
-  cuts-in-two (widens e p c u) = (M.fits e p (s .warp) (held-at k l s g) c, rw u (M.split-cuts e p (s .warp) (held-at k l s g) c))
-
-  opens : Opener (instrAt k (s .warp)) (s .warp) (s .vector) (t .warp) → Opens k s t
-  opens (none n) = absurd (omega arith)
-  opens (branch c a b n i u) =
-      let m = cuts-in-two wide in
-      let o : lastSplit (t .warp) ≡ opened (elseLanes s c a b) (pcOffset 13 n (s .warp)) (s .warp) = rw u (last-opened _ _ (s .warp) (omega (arith, g .splits, m .0))) in
-      let e : lastSplit (t .warp) .elsemask ≡ elseLanes s c a b = ap (λ (x : Split). x .elsemask) o in
-      record {
-        by =
-            record {
-              cond = c;
-              left = a;
-              right = b;
-              offset = n;
-              word = i;
-              some = λ z. omega (arith, m .1 .one, e);
-              notall = λ z. omega (arith, m .1 .other, ap (λ (x : Warp). x .mask) u ∙ open-mask _ _ (s .warp));
-            };
-        split = o;
-        cut = m .1;
-        first = rw u (open-pc _ _ (s .warp));
-      }
+    opens-at : Opens k s t
+    opens-at = opens (rw done (opener s (instrAt k s)))
 
 pub split-cuts : SplitCuts
-split-cuts k l s t r q d = let g : Sound k l s = reached-sound k l s r in opens k l s t g q d (opener k l s t g q d)
+split-cuts k l s t r q d = opens-at k l s t (reached-sound k l s r) q d
 
-module _ (e p : ℕ) (w : Warp) (z : e ≡ 0 → ⊥) (m : e ≡ w .mask → ⊥) where
-  open-depth : openOf e p w .depth ≡ w .depth + 1
-  unfolding openOf
-  open-depth = refl
-
-  branch-opens : vbranchOf e p w .code ≡ 0 → vbranchOf e p w .warp .depth ≡ w .depth + 1
-  branch-opens c =
-      is-zero (p % 4) (λ a. ap (λ (x : Answer). x .warp .depth) (sym (vbranch-opens e p w z a m)) ∙ open-depth)
-      (λ a. let x : 8 ≡ 0 = ap (λ (x : Answer). x .code) (vbranch-refused e p w z a) ∙ c in absurd (omega arith))
-
-exec-branch : (c : Cond) (a b : VReg) (n : ℕ) (w : Warp) (v d : List ℕ)
-    → execOf (I.VBranch c a b n) w v d ≡ effect (goes (vbranchOf (maskOf (w .fixed .numt) (wantsOf v (w .mask) c a b)) (pcOffset 13 n w) w)) w v d
-unfolding execOf effectOf
-exec-branch c a b n w v d = refl
+parts : (c : Cond) (a b : VReg) (n : ℕ) (s : State) → effect (effectOf (I.VBranch c a b n) s) s .warp ≡ parted (elseOf c a b s) (pcBy 13 n s) (s .warp)
+unfolding effectOf
+parts c a b n s = refl
 
 pub split-when : SplitWhen
 split-when k l s t r q = ((λ d. split-cuts k l s t r q d .by), widened)
   where
     widened : Disagree k s → t .warp .depth ≡ s .warp .depth + 1
     widened x =
-        let p = sym q ∙ taken-exec k (s .warp) (s .vector) (s .bytes) (ap (λ (o : Outcome). o .code) q) ∙ ap (λ (i : Instr). execOf i (s .warp) (s .vector) (s .bytes)) (x .word)
-        ∙ exec-branch (x .cond) (x .left) (x .right) (x .offset) (s .warp) (s .vector) (s .bytes) in
-        ap (λ (o : Outcome). o .warp .depth) p ∙ branch-opens _ _ (s .warp) (x .some) (x .notall) (sym (ap (λ (o : Outcome). o .code) p))
+        ap (λ (u : Warp). u .depth) (
+        done k l s t (reached-sound k l s r) q
+        ∙ ap (λ (i : Instr). effect (effectOf i s) s .warp) (x .word)
+        ∙ parts (x .cond) (x .left) (x .right) (x .offset) s
+        ∙ sym (parted-opens _ _ (s .warp) (x .some) (x .notall)))
+        ∙ opening _ _ (s .warp) .depth
 
 -- ---- the mask comes back
+
+-- no move closes more than one split
+closes-one : (w u : Warp) → M.Moves w u → w .depth ≤ u .depth + 1
+closes-one w u (M.opens e p c q) = omega (arith, ap (λ (x : Warp). x .depth) q, opening e p w .depth)
+closes-one w u (M.joins q) = rw q (joined w .least)
+closes-one w u (M.leaves x) = omega (arith, x .depth)
 
 -- what is above over calls is above over moves
 above : (k : List ℕ) (l : Launch) (n : ℕ) (s t : State) → Sound k l s → Above k n s t → M.Above n (s .warp) (t .warp) × Sound k l t
 above k l n s t g (here a) = (M.here a, g)
 above k l n s t g (on {t = u} p m a) =
     let h = above k l n s u g p in
-    (M.on (h .0) (goes-moves k u t (fit k l u (h .1)) m) a, goes-sound k l u t (h .1) m)
+    (M.on (h .0) (carried k u t (fit k l u (h .1)) m .moves) a, goes-sound k l u t (h .1) m)
 
 last-above : (n : ℕ) (w u : Warp) → M.Above n w u → n < u .depth
 last-above n w u (M.here a) = a
@@ -159,8 +219,8 @@ pub restored : Restored
 restored k l s a b t r q d p m f =
     let g : Sound k l s = reached-sound k l s r in
     let h = above k l (s .warp .depth) a b (goes-sound k l s a g (steps q)) p in
-    let z : M.Moves (b .warp) (t .warp) = goes-moves k b t (fit k l b (h .1)) m in
-    (omega (arith, modest (b .warp) (t .warp) z .depth, last-above _ _ _ (h .0)), back (wide k l s a g q d) (h .0) z)
+    let z : M.Moves (b .warp) (t .warp) = carried k b t (fit k l b (h .1)) m .moves in
+    (omega (arith, closes-one (b .warp) (t .warp) z, last-above _ _ _ (h .0)), back (wide k l s a g q d) (h .0) z)
   where
     back : Widens (s .warp) (a .warp) → M.Above (s .warp .depth) (a .warp) (b .warp) → M.Moves (b .warp) (t .warp) → t .warp .mask ≡ s .warp .mask
     back (widens e o c u) x z = M.restored e o (s .warp) (b .warp) (t .warp) (held-at k l s (reached-sound k l s r)) c (rw u at x) z f

@@ -6,9 +6,9 @@ use lib.ListN.{replicate}
 use Rattle.lanes.specs.Lanes.{fileWords}
 use Rattle.warp.specs.declared.Launch.{Launch}
 use Rattle.warp.specs.Warp.{splitCount}
-use Rattle.definition.specs.Calls.{Ran, launchOf}
-use Rattle.promises.specs.Reached.{State, Reached}
-use Rattle.promises.specs.Runs.{stateOf, runAt}
+use Rattle.definition.specs.State.{State}
+use Rattle.definition.specs.Calls.{Ran, launchOf, runOf}
+use Rattle.promises.specs.Reached.{Reached}
 
 -- lane l goes round l + 1 times
 abbrev pub loop : List ℕ
@@ -48,29 +48,29 @@ launchOn n m =
 
 -- the kernel k launched, with no data memory
 abbrev pub startOf : List ℕ → Launch → State
-startOf k l = stateOf (launchOf k l (replicate fileWords 0) [])
+startOf k l = launchOf k l (replicate fileWords 0) [] .left
 
 abbrev pub all32 : Launch
 all32 = launchOn 32 0xffffffff
 
 -- a reached state with as many splits open as there is room for
 pub record Full (r : Ran) : Type 0 where
-  pub reached : Reached loop all32 (stateOf (r .left))
+  pub reached : Reached loop all32 (r .ends .left)
   pub steps : r .steps ≡ 95
-  pub depth : r .left .warp .depth ≡ splitCount
+  pub depth : r .ends .left .warp .depth ≡ splitCount
 
 -- the warp ended, all splits closed and all lanes active again
 pub record Closed (r : Ran) : Type 0 where
-  pub code : r .left .code ≡ 3
+  pub code : r .ends .code ≡ 3
   pub steps : r .steps ≡ 162
-  pub depth : r .left .warp .depth ≡ 0
-  pub mask : r .left .warp .mask ≡ 0xffffffff
+  pub depth : r .ends .left .warp .depth ≡ 0
+  pub mask : r .ends .left .warp .mask ≡ 0xffffffff
 
 -- ---- promises
 
 -- The bound is reached.
 abbrev pub BoundReached : Type 0
-BoundReached = Full (runAt loop 95 (startOf loop all32))
+BoundReached = Full (runOf loop 95 (startOf loop all32))
 
 abbrev pub LoopCloses : Type 0
-LoopCloses = Closed (runAt loop 163 (startOf loop all32))
+LoopCloses = Closed (runOf loop 163 (startOf loop all32))

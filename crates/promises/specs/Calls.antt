@@ -1,13 +1,12 @@
--- For each public call of the machine: two results that its contract allows are equal. (The card's two calls: card/specs/CardLaws.antt, read-determined and write-determined.)
+-- For each public call of the machine: two results that its contract allows are equal. (The card's two calls: read-determined and write-determined of card.)
 use Prim.Native.Nat.{ℕ}
 use mathlib.Core.List.{List}
-use Rattle.warp.specs.declared.Warp.{Warp}
+use Rattle.answer.specs.Answer.{numberOf}
 use Rattle.warp.specs.declared.Launch.{Launch}
-use Rattle.warp.specs.Warp.{Answer, answer}
-use Rattle.definition.specs.Outcome.{Outcome, outcome}
+use Rattle.warp.specs.Warp.{Answered, answered}
+use Rattle.definition.specs.State.{state, Outcome, outcome}
 use Rattle.definition.specs.Step.{stepOf}
 use Rattle.definition.specs.Calls.{Ran, ran, launchOf, runOf, releaseOf}
-use Rattle.machine.specs.Answer.{numberOf}
 use Rattle.machine.specs.declared.Left.{Left}
 use Rattle.machine.specs.declared.Ran as code
 use Rattle.promises.specs.Determined.{DeterminedWhole}
@@ -25,13 +24,13 @@ pub record RunLeaves : Type 0 where
 
 -- what the contracts see of them
 abbrev pub seen : Leaves → Outcome
-seen r = outcome (numberOf (r .result .answer)) (r .result .warp) (r .vector) (r .bytes)
+seen r = outcome (numberOf (r .result .answer)) (state (r .result .warp) (r .vector) (r .bytes))
 
 abbrev pub runSeen : RunLeaves → Ran
-runSeen r = ran (r .result .steps) (outcome (numberOf (r .result .answer)) (r .result .warp) (r .vector) (r .bytes))
+runSeen r = ran (r .result .steps) (outcome (numberOf (r .result .answer)) (state (r .result .warp) (r .vector) (r .bytes)))
 
-abbrev pub freed : Left → Answer
-freed r = answer (numberOf (r .answer)) (r .warp)
+abbrev pub freed : Left → Answered
+freed r = answered (numberOf (r .answer)) (r .warp)
 
 -- ---- promises
 
@@ -39,10 +38,10 @@ abbrev pub LaunchDetermined : Type 0
 LaunchDetermined = (k v d : List ℕ) → DeterminedWhole seen (λ (l : Launch). launchOf k l v d)
 
 abbrev pub StepDetermined : Type 0
-StepDetermined = (k v d : List ℕ) → DeterminedWhole seen (λ (w : Warp). stepOf k w v d)
+StepDetermined = (k : List ℕ) → DeterminedWhole seen (stepOf k)
 
 abbrev pub RunDetermined : Type 0
-RunDetermined = (k v d : List ℕ) (n : ℕ) → DeterminedWhole runSeen (λ (w : Warp). runOf k n w v d)
+RunDetermined = (k : List ℕ) (n : ℕ) → DeterminedWhole runSeen (runOf k n)
 
 abbrev pub ReleaseDetermined : Type 0
 ReleaseDetermined = DeterminedWhole freed releaseOf

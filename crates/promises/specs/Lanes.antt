@@ -7,26 +7,21 @@ use lib.Dec.{eqb, ltb}
 use lib.ListN.{length, getD}
 use Rattle.isa.specs.declared.Instr.{Instr}
 use Rattle.isa.specs.declared.Instr.the-variants as I
+use Rattle.isa.specs.declared.Space.{Space}
 use Rattle.isa.specs.declared.StoreOp.{StoreOp}
 use Rattle.isa.specs.declared.XReg.{XReg}
 use Rattle.isa.specs.declared.VReg.{VReg}
-use Rattle.lanes.specs.Mask.{bit}
 use Rattle.lanes.specs.Lanes.{lanesMax, laneOf}
 use Rattle.memory.specs.Memory.{widthOf}
-use Rattle.memory.specs.Address.{plainOf, plainAt, privateAt}
-use Rattle.warp.specs.declared.Warp.{Warp}
-use Rattle.warp.specs.Warp.{readX}
 use Rattle.warp.specs.WellFormed.{wellFormedOf}
-use Rattle.definition.specs.Outcome.{Outcome}
-use Rattle.definition.specs.Exec.{privateIn}
+use Rattle.definition.specs.State.{State, state, Outcome, fixedOf, active, memoryOf, scalarAt, laneAt, instrAt}
 use Rattle.definition.specs.Step.{stepOf}
-use Rattle.promises.specs.Refusals.{instrAt}
 
 -- ---- what is spoken of
 
 -- lane l is one of the NUMT lanes and in the active mask
-abbrev pub active : Warp → ℕ → Bool
-active w l = ltb l (w .fixed .numt) && bit (w .mask) l
+abbrev pub isActive : State → ℕ → Bool
+isActive m l = ltb l (fixedOf m .numt) && active m l
 
 -- the vector files v and u have the same word in every register of lane l
 abbrev pub SameLane : ℕ → List ℕ → List ℕ → Type 0
@@ -40,50 +35,53 @@ Agree on v u = (length v ≡ length u) × ((l : ℕ) → l < lanesMax → on l �
 abbrev pub allBut : ℕ → ℕ → Bool
 allBut h l = not (eqb l h)
 
+-- m with another vector file
+abbrev pub withFile : List ℕ → State → State
+withFile u m = state (m .warp) u (m .bytes)
+
 -- two outcomes: one answer, one warp, one data memory, and vector files that agree in the lanes that `on` picks
 pub record Alike (on : ℕ → Bool) (o p : Outcome) : Type 0 where
   pub code : o .code ≡ p .code
-  pub warp : o .warp ≡ p .warp
-  pub bytes : o .bytes ≡ p .bytes
-  pub vector : Agree on (o .vector) (p .vector)
+  pub warp : o .left .warp ≡ p .left .warp
+  pub bytes : o .left .bytes ≡ p .left .bytes
+  pub vector : Agree on (o .left .vector) (p .left .vector)
 
 -- an access of n bytes at the address b has the address a
 abbrev pub Has : ℕ → ℕ → ℕ → Type 0
 Has n b a = (b ≤ a) × (a < b + n)
 
 -- the instruction's store has the address a: a scalar store's one access, or an active lane's. No other instruction stores
-pub data Touches (w : Warp) (v : List ℕ) (a : ℕ) : Instr → Type 0 where
-  scalar : (k : StoreOp) (x y : XReg) (n : ℕ) → Has (widthOf k) (plainOf (readX x w) n) a → Touches w v a (I.Store k x y n)
-  lane : (k : StoreOp) (x y : VReg) (n l : ℕ) → active w l ≡ true → Has (widthOf k) (plainAt v x n l) a → Touches w v a (I.VStore k x y n)
-  inPrivate : (k : StoreOp) (x y : VReg) (n l : ℕ) → active w l ≡ true → Has (widthOf k) (privateAt (privateIn (w .fixed)) v x n l) a → Touches w v a (I.PStore k x y n)
+pub data Touches (m : State) (a : ℕ) : Instr → Type 0 where
+  scalar : (k : StoreOp) (x y : XReg) (n : ℕ) → Has (widthOf k) (scalarAt x n m) a → Touches m a (I.Store k x y n)
+  lane : (s : Space) (k : StoreOp) (x y : VReg) (n l : ℕ) → isActive m l ≡ true → Has (widthOf k) (laneAt s x n m l) a → Touches m a (I.VStore s k x y n)
 
--- ---- the promises: for every kernel k, warp w, vector file v and data memory d, whatever the step answers
+-- ---- the promises: for every kernel k and state m, whatever the step answers
 
 -- in a well-formed warp the active lanes are those of the mask
 abbrev pub ActiveMask : Type 0
-ActiveMask = (w : Warp) → wellFormedOf w ≡ true → (l : ℕ) → active w l ≡ bit (w .mask) l
+ActiveMask = (m : State) → wellFormedOf (m .warp) ≡ true → (l : ℕ) → isActive m l ≡ active m l
 
 -- an inactive lane keeps all its vector registers
 abbrev pub Kept : Type 0
-Kept = (k : List ℕ) (w : Warp) (v d : List ℕ) (l : ℕ) → l < lanesMax → active w l ≡ false → SameLane l (stepOf k w v d .vector) v
+Kept = (k : List ℕ) (m : State) (l : ℕ) → l < lanesMax → isActive m l ≡ false → SameLane l (stepOf k m .left .vector) (m .vector)
 
 -- no byte is written for it: every byte outside the active lanes' accesses and a scalar store's stays
 abbrev pub Unwritten : Type 0
 Unwritten =
-    (k : List ℕ) (w : Warp) (v d : List ℕ) →
-    (length (stepOf k w v d .bytes) ≡ length d) ×
-    ((j : ℕ) → (Touches w v (w .fixed .database + j) (instrAt k w) → ⊥) → getD (stepOf k w v d .bytes) j 0 ≡ getD d j 0)
+    (k : List ℕ) (m : State) →
+    (length (stepOf k m .left .bytes) ≡ length (m .bytes)) ×
+    ((j : ℕ) → (Touches m (memoryOf m .base + j) (instrAt k m) → ⊥) → getD (stepOf k m .left .bytes) j 0 ≡ getD (m .bytes) j 0)
 
 -- what the step does depends on the active lanes alone
 abbrev pub Unseen : Type 0
-Unseen = (k : List ℕ) (w : Warp) (v u d : List ℕ) → Agree (active w) v u → Alike (active w) (stepOf k w v d) (stepOf k w u d)
+Unseen = (k : List ℕ) (m : State) (u : List ℕ) → Agree (isActive m) (m .vector) u → Alike (isActive m) (stepOf k m) (stepOf k (withFile u m))
 
 -- if an inactive lane's vector registers had held anything else, the step would give the same answer, the same warp, the same data and the same registers of every other lane
 abbrev pub Unfelt : Type 0
-Unfelt = (k : List ℕ) (w : Warp) (v u d : List ℕ) (h : ℕ) → active w h ≡ false → Agree (allBut h) v u → Alike (allBut h) (stepOf k w v d) (stepOf k w u d)
+Unfelt = (k : List ℕ) (m : State) (u : List ℕ) (h : ℕ) → isActive m h ≡ false → Agree (allBut h) (m .vector) u → Alike (allBut h) (stepOf k m) (stepOf k (withFile u m))
 
 -- a lane's vector registers after a step depend on that lane's before, the scalar state and the data alone: the other lanes decide no more than the answer's number
 abbrev pub LaneAlone : Type 0
 LaneAlone =
-    (k : List ℕ) (w : Warp) (v u d : List ℕ) → length v ≡ length u → stepOf k w v d .code ≡ stepOf k w u d .code → (l : ℕ) → l < lanesMax → SameLane l v u →
-    SameLane l (stepOf k w v d .vector) (stepOf k w u d .vector)
+    (k : List ℕ) (m : State) (u : List ℕ) → length (m .vector) ≡ length u → stepOf k m .code ≡ stepOf k (withFile u m) .code →
+    (l : ℕ) → l < lanesMax → SameLane l (m .vector) u → SameLane l (stepOf k m .left .vector) (stepOf k (withFile u m) .left .vector)

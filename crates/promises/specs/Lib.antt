@@ -5,5 +5,5 @@ pub mod Lanes
 pub mod Runs
 pub mod Refusals
 pub mod Determined
-pub mod Calls
 pub mod Trace
+pub mod Calls

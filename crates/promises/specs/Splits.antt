@@ -3,23 +3,19 @@ use Prim.Native.Nat.{ℕ, _+_, _≤_, _<_}
 use mathlib.Core.Path.{_≡_}
 use mathlib.Core.List.{List}
 use lib.Count.{ones}
+use Rattle.answer.specs.Rows.{Iff}
 use Rattle.word.specs.declared.Cond.{Cond}
 use Rattle.isa.specs.declared.VReg.{VReg}
 use Rattle.isa.specs.declared.Instr.the-variants as I
 use Rattle.lanes.specs.Mask.{bitAt}
-use Rattle.lanes.specs.Lanes.{maskOf, wantsOf}
 use Rattle.warp.specs.declared.Launch.{Launch}
 use Rattle.warp.specs.Warp.{splitCount, nextPc}
 use Rattle.warp.specs.Splits.{opened, lastSplit}
 use Rattle.warp.specs.Chain.{parkedIn}
 use Rattle.warp.specs.Moves.{CutInTwo}
-use Rattle.definition.specs.Exec.{pcOffset}
-use Rattle.promises.specs.Reached.{State, stepAt, leaving, Goes, Reached}
-use Rattle.promises.specs.Refusals.{instrAt, Iff}
-
--- the active lanes where the condition holds, which want the else PC
-abbrev pub elseLanes : State → Cond → VReg → VReg → ℕ
-elseLanes s c a b = maskOf (s .warp .fixed .numt) (wantsOf (s .vector) (s .warp .mask) c a b)
+use Rattle.definition.specs.State.{State, outcome, pcBy, elseOf, instrAt}
+use Rattle.definition.specs.Step.{stepOf}
+use Rattle.promises.specs.Reached.{Goes, Reached}
 
 -- the word at the PC is a VBRANCH over which the active lanes disagree: some want the else PC, and not all
 pub record Disagree (k : List ℕ) (s : State) : Type 0 where
@@ -27,15 +23,15 @@ pub record Disagree (k : List ℕ) (s : State) : Type 0 where
   pub left : VReg
   pub right : VReg
   pub offset : ℕ
-  pub word : instrAt k (s .warp) ≡ I.VBranch cond left right offset
-  pub some : elseLanes s cond left right ≡ 0 → ⊥
-  pub notall : elseLanes s cond left right ≡ s .warp .mask → ⊥
+  pub word : instrAt k s ≡ I.VBranch cond left right offset
+  pub some : elseOf cond left right s ≡ 0 → ⊥
+  pub notall : elseOf cond left right s ≡ s .warp .mask → ⊥
 
 -- the step from s to t opens a split
 pub record Opens (k : List ℕ) (s t : State) : Type 0 where
   -- rpc from CSR_RPC, full the active mask, and the else mask and else PC of a VBRANCH over which the lanes disagree
   pub by : Disagree k s
-  pub split : lastSplit (t .warp) ≡ opened (elseLanes s (by .cond) (by .left) (by .right)) (pcOffset 13 (by .offset) (s .warp)) (s .warp)
+  pub split : lastSplit (t .warp) ≡ opened (elseOf (by .cond) (by .left) (by .right) s) (pcBy 13 (by .offset) s) (s .warp)
   -- the active mask is cut in two non-empty masks that share no lane and together are that mask: the else mask, and the mask that runs
   pub cut : CutInTwo (s .warp .mask) (lastSplit (t .warp) .elsemask) (t .warp .mask)
   -- the lanes that go to PC + 4 run first
@@ -45,12 +41,11 @@ pub record Opens (k : List ℕ) (s t : State) : Type 0 where
 
 -- A split cuts the active mask in two.
 abbrev pub SplitCuts : Type 0
-SplitCuts =
-    (k : List ℕ) (l : Launch) (s t : State) → Reached k l s → stepAt k s ≡ leaving t → t .warp .depth ≡ s .warp .depth + 1 → Opens k s t
+SplitCuts = (k : List ℕ) (l : Launch) (s t : State) → Reached k l s → stepOf k s ≡ outcome 0 t → t .warp .depth ≡ s .warp .depth + 1 → Opens k s t
 
 -- A taken step opens a split when, and only when, the active lanes disagree over a VBRANCH.
 abbrev pub SplitWhen : Type 0
-SplitWhen = (k : List ℕ) (l : Launch) (s t : State) → Reached k l s → stepAt k s ≡ leaving t → Iff (t .warp .depth ≡ s .warp .depth + 1) (Disagree k s)
+SplitWhen = (k : List ℕ) (l : Launch) (s t : State) → Reached k l s → stepOf k s ≡ outcome 0 t → Iff (t .warp .depth ≡ s .warp .depth + 1) (Disagree k s)
 
 -- Each launched lane is active or parked in just one open split, and no other lane is either.
 abbrev pub Covered : Type 0
@@ -79,6 +74,6 @@ pub data Above (k : List ℕ) (n : ℕ) : State → State → Type 0 where
 -- up to b it stays open, and from b to t the count falls.
 abbrev pub Restored : Type 0
 Restored =
-    (k : List ℕ) (l : Launch) (s a b t : State) → Reached k l s → stepAt k s ≡ leaving a → a .warp .depth ≡ s .warp .depth + 1
+    (k : List ℕ) (l : Launch) (s a b t : State) → Reached k l s → stepOf k s ≡ outcome 0 a → a .warp .depth ≡ s .warp .depth + 1
     → Above k (s .warp .depth) a b → Goes k b t → t .warp .depth ≤ s .warp .depth
     → (t .warp .depth ≡ s .warp .depth) × (t .warp .mask ≡ s .warp .mask)

@@ -1,29 +1,21 @@
--- The trace cards P1 to P12: one table, one statement, which antt computes.
+-- The trace cards P1 to P12: one table of words, one of runs and steps.
 use Prim.Native.Nat.{ℕ}
-use mathlib.Core.Path.{_≡_, refl}
+use mathlib.Core.Path.{_≡_}
 use mathlib.Core.List.{List, [], _∷_, _++_}
 use lib.ListN.{getD, replicate}
+use Rattle.answer.specs.Rows.{Row, _⇒_}
 use Rattle.word.specs.Word.{flagOf, applyOf}
 use Rattle.word.specs.declared.Op.the-variants.{Add, Div, Rem}
 use Rattle.isa.specs.Fields.{x}
 use Rattle.isa.specs.Decode.{decodeOf}
-use Rattle.isa.specs.Scalar.{jalrOf, branchOf, loadOf, storeOf, shiftOf, opImmOf, byFunct3, opOf, fenceOf, csrOf}
-use Rattle.isa.specs.Vector.{plainOf, multiplyOf, operandsOf, vectorOf}
-use Rattle.isa.specs.Ventus.{joinOf, splitsOf, endPrgOf, barrierOf, stopOf, laneAccessOf, privateOf}
+use Rattle.isa.specs.declared.Instr.{Instr}
 use Rattle.isa.specs.declared.Instr.the-variants as I
-use Rattle.encoding.specs.Encode.{wordOf}
-use Rattle.lanes.specs.Mask.{bitAt}
-use Rattle.lanes.specs.Lanes.{eachLane, allLanes}
-use Rattle.memory.specs.Bytes.{leBytes}
 use Rattle.warp.specs.declared.Warp.{Warp}
 use Rattle.warp.specs.declared.Split.{Split}
-use Rattle.warp.specs.Warp.{zeroSplit, reachOf}
-use Rattle.warp.specs.WellFormed.{fixedOkOf, splitOkOf, chainOf, allZero, wellFormedOf}
-use Rattle.warp.specs.Splits as splits
-use Rattle.definition.specs.Outcome.{Outcome}
-use Rattle.definition.specs.Exec.{effectOf, execOf}
-use Rattle.definition.specs.Step.{runsOkOf, stepOf}
-use Rattle.definition.specs.Calls.{launchedOf, Ran, stepsOf, runOf}
+use Rattle.warp.specs.Warp.{zeroSplit}
+use Rattle.definition.specs.State.{state, Outcome}
+use Rattle.definition.specs.Step.{stepOf}
+use Rattle.definition.specs.Calls.{launchedOf, Ran, runOf}
 use Rattle.promises.specs.Bound.{launchOn}
 
 pub record Case : Type 0 where
@@ -48,40 +40,44 @@ file v1 v2 = replicate 32 0 ++ (v1 ++ (replicate 28 0 ++ (v2 ++ replicate 956 0)
 
 -- a kernel of one word, one step
 abbrev step : ℕ → ℕ → List ℕ → List ℕ → List ℕ → Outcome
-step word m v1 v2 d = stepOf (word ∷ []) (warp m) (file v1 v2) d
+step word m v1 v2 d = stepOf (word ∷ []) (state (warp m) (file v1 v2) d)
 
--- ---- P1 to P6 and P12: one kernel, looked at after n steps
--- At 80000008 setrpc x0, x5, 16, x5 being 80000020; at 80000010 VBEQ; at 80000030 `last`, JOIN but for P12; at 80000034 ENDPRG.
-
-abbrev kernel : ℕ → List ℕ
-kernel last = 0x00000297 ∷ 0x02028293 ∷ 0x0102B05B ∷ nop ∷ 0x0020885B ∷ (replicate 7 nop ++ (last ∷ 0x0000400B ∷ []))
-
-abbrev after : ℕ → ℕ → Ran
-after n last = runOf (kernel last) n (warp 0xF) (file (0 ∷ 1 ∷ 2 ∷ 3 ∷ []) (2 ∷ 2 ∷ 2 ∷ 2 ∷ [])) []
-
--- the answer, the count, PC, mask, open splits, RPC, x0, ended
-abbrev view : Ran → List ℕ
-view r =
-    let w : Warp = r .left .warp in
-    r .left .code ∷ r .steps ∷ w .pc ∷ w .mask ∷ w .depth ∷ w .rpc ∷ getD (w .x) 0 1 ∷ flagOf (w .ended) ∷ []
-
--- the first split record: rpc, full mask, else mask, else PC, phase two
-abbrev split : Ran → List ℕ
-split r =
-    let s : Split = getD (r .left .warp .splits) 0 zeroSplit in
-    s .rpc ∷ s .full ∷ s .elsemask ∷ s .elsepc ∷ flagOf (s .phasetwo) ∷ []
-
+-- the words of P1 and P2
 abbrev join : ℕ
 join = 0x0000205B
 
 abbrev endprg : ℕ
 endprg = 0x0000400B
 
+abbrev setrpc : ℕ
+setrpc = 0x0102B05B
+
+-- ---- P1 to P6 and P12: one kernel, looked at after n steps
+-- At 80000008 setrpc x0, x5, 16, x5 being 80000020; at 80000010 VBEQ; at 80000030 `last`, JOIN but for P12; at 80000034 ENDPRG.
+
+abbrev kernel : ℕ → List ℕ
+kernel last = 0x00000297 ∷ 0x02028293 ∷ setrpc ∷ nop ∷ 0x0020885B ∷ (replicate 7 nop ++ (last ∷ endprg ∷ []))
+
+abbrev after : ℕ → ℕ → Ran
+after n last = runOf (kernel last) n (state (warp 0xF) (file (0 ∷ 1 ∷ 2 ∷ 3 ∷ []) (2 ∷ 2 ∷ 2 ∷ 2 ∷ [])) [])
+
+-- the answer, the count, PC, mask, open splits, RPC, x0, ended
+abbrev view : Ran → List ℕ
+view r =
+    let w : Warp = r .ends .left .warp in
+    r .ends .code ∷ r .steps ∷ w .pc ∷ w .mask ∷ w .depth ∷ w .rpc ∷ getD (w .x) 0 1 ∷ flagOf (w .ended) ∷ []
+
+-- the first split record: rpc, full mask, else mask, else PC, phase two
+abbrev split : Ran → List ℕ
+split r =
+    let s : Split = getD (r .ends .left .warp .splits) 0 zeroSplit in
+    s .rpc ∷ s .full ∷ s .elsemask ∷ s .elsepc ∷ flagOf (s .phasetwo) ∷ []
+
 -- ---- P7: VBLT and VBLTU v1, v2, 16 with v1 −1 and v2 0 in all lanes
 abbrev compared : ℕ → List ℕ
 compared word =
     let o : Outcome = step word 0xF (replicate 4 0xFFFFFFFF) (replicate 4 0) [] in
-    o .code ∷ o .warp .pc ∷ []
+    o .code ∷ o .left .warp .pc ∷ []
 
 -- ---- P10: VSW12 of v2 at v1's addresses, lane 3's one byte past the end of 16 bytes
 abbrev stored : Outcome
@@ -91,12 +87,16 @@ stored = step 0x0020E07B 0xF (0 ∷ 4 ∷ 8 ∷ 13 ∷ []) (1 ∷ 1 ∷ 1 ∷ 1 
 abbrev taken : List ℕ → Outcome
 taken v1 = step 0x421022D7 3 v1 (0 ∷ 0 ∷ 0 ∷ 0 ∷ []) []
 
+-- ---- the tables
+
+-- P1, P2: the words
+abbrev pub words : List (Row Instr)
+words = join ⇒ I.Join ∷ endprg ⇒ I.EndPrg ∷ setrpc ⇒ I.SetRpc (x 0) (x 5) 16 ∷ []
+
 abbrev pub cases : List Case
 cases =
-    -- P1, P2: the words, then what they do
-    (wordOf I.Join ∷ wordOf I.EndPrg ∷ []) gives (join ∷ endprg ∷ [])
-    ∷ view (after 20 join) gives (0 ∷ 20 ∷ 0x80000034 ∷ 0xF ∷ 0 ∷ 0x80000030 ∷ 0 ∷ 1 ∷ [])
-    ∷ (wordOf (I.SetRpc (x 0) (x 5) 16) ∷ []) gives (0x0102B05B ∷ [])
+    -- P1, P2
+    view (after 20 join) gives (0 ∷ 20 ∷ 0x80000034 ∷ 0xF ∷ 0 ∷ 0x80000030 ∷ 0 ∷ 1 ∷ [])
     ∷ view (after 3 join) gives (0 ∷ 3 ∷ 0x8000000C ∷ 0xF ∷ 0 ∷ 0x80000030 ∷ 0 ∷ 0 ∷ [])
     -- P3, P4, P5, P6
     ∷ view (after 5 join) gives (0 ∷ 5 ∷ 0x80000014 ∷ 0xB ∷ 1 ∷ 0x80000030 ∷ 0 ∷ 0 ∷ [])
@@ -112,8 +112,8 @@ cases =
     ∷ (applyOf Add 0xFFFFFFFF 1 ∷ []) gives (0 ∷ [])
     ∷ (applyOf Div 7 0 ∷ applyOf Rem 7 0 ∷ applyOf Div 0x80000000 0xFFFFFFFF ∷ applyOf Rem 0x80000000 0xFFFFFFFF ∷ []) gives (0xFFFFFFFF ∷ 7 ∷ 0x80000000 ∷ 0 ∷ [])
     -- P10, P11, P12
-    ∷ (stored .code ∷ stored .bytes) gives (9 ∷ replicate 16 7)
-    ∷ (taken (5 ∷ 5 ∷ 0 ∷ 0 ∷ []) .code ∷ getD (taken (5 ∷ 5 ∷ 0 ∷ 0 ∷ []) .warp .x) 5 0 ∷ []) gives (0 ∷ 5 ∷ [])
+    ∷ (stored .code ∷ stored .left .bytes) gives (9 ∷ replicate 16 7)
+    ∷ (taken (5 ∷ 5 ∷ 0 ∷ 0 ∷ []) .code ∷ getD (taken (5 ∷ 5 ∷ 0 ∷ 0 ∷ []) .left .warp .x) 5 0 ∷ []) gives (0 ∷ 5 ∷ [])
     ∷ (taken (5 ∷ 6 ∷ 0 ∷ 0 ∷ []) .code ∷ []) gives (10 ∷ [])
     ∷ view (after 13 endprg) gives (11 ∷ 12 ∷ 0x80000030 ∷ 0xB ∷ 1 ∷ 0x80000030 ∷ 0 ∷ 0 ∷ [])
     ∷ []
@@ -123,6 +123,15 @@ abbrev pub Hold : List Case → Type 0
 Hold [] = Unit {0}
 Hold (c ∷ cs) = (c .got ≡ c .is) × Hold cs
 
-pub trace-cards : Hold cases
-unfolding decodeOf jalrOf branchOf loadOf storeOf opImmOf opOf fenceOf csrOf vectorOf operandsOf plainOf multiplyOf shiftOf byFunct3 joinOf splitsOf endPrgOf barrierOf stopOf laneAccessOf privateOf wordOf bitAt eachLane allLanes leBytes reachOf fixedOkOf splitOkOf chainOf allZero wellFormedOf splits.openOf splits.vbranchOf splits.joinOf splits.setRpcOf effectOf execOf runsOkOf stepOf stepsOf runOf
-trace-cards = (refl, (refl, (refl, (refl, (refl, (refl, (refl, (refl, (refl, (refl, (refl, (refl, (refl, (refl, (refl, (refl, (refl, (refl, (refl, tt)))))))))))))))))))
+-- every word of a table is its instruction's
+abbrev pub Decode : List (Row Instr) → Type 0
+Decode [] = Unit {0}
+Decode (r ∷ rs) = (decodeOf (r .code) ≡ r .is) × Decode rs
+
+-- ---- promises
+
+abbrev pub TraceWords : Type 0
+TraceWords = Decode words
+
+abbrev pub TraceCards : Type 0
+TraceCards = Hold cases

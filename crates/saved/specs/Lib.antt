@@ -1,4 +1,1 @@
 pub mod Saved
-pub mod Handed
-pub mod RoundTrip
-pub mod SaveLaws

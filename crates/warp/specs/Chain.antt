@@ -13,22 +13,11 @@ use lib.Bits.{bitAnd, and-le-r}
 use lib.Count.{ones}
 use borrow.Author.Tests.{eq-eqb, ne-eqb, eqb-true, eqb-false, not-true}
 use Rattle.warp.specs.declared.Split.{Split}
+use Rattle.answer.proofs.Rows.{both, every-at}
 use Rattle.lanes.specs.Mask.{bitAt, inside}
 use Rattle.lanes.specs.MaskLaws.{cut-bit, cut-ones, ones-pos}
 use Rattle.warp.specs.Warp.{zeroSplit, aligned}
-use Rattle.warp.specs.WellFormed.{every, runningOf, parkedOf, splitOkOf, chainOf, isZero, allZero}
-
-pub both : (a b : Bool) → (a && b) ≡ true → (a ≡ true) × (b ≡ true)
-both true b e = (refl, e)
-both false b e = let z : false ≡ true = e in (z, cc)
-
--- each of the tests that all hold
-pub every-at : (ts : List Bool) → every ts ≡ true → (i : ℕ) → getD ts i true ≡ true
-every-at [] e i = refl
-every-at (t ∷ []) e zero = e
-every-at (t ∷ []) e (suc i) = refl
-every-at (t ∷ u ∷ ts) e zero = both t (every (u ∷ ts)) e .0
-every-at (t ∷ u ∷ ts) e (suc i) = every-at (u ∷ ts) (both t (every (u ∷ ts)) e .1) i
+use Rattle.warp.specs.WellFormed.{runningOf, parkedOf, splitOkOf, chainOf, isZero, allZero}
 
 -- a field that is an array of structs is known by the list of its elements' parts
 pub mapped : {A B : Type 0} (f : A → B) (l : List A) (n : ℕ) → length (map f l) ≡ n → length l ≡ n

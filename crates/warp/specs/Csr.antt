@@ -1,21 +1,21 @@
 -- The CSRs from 0x800 on.
-use Prim.Native.Nat.{ℕ, _-_}
-use mathlib.Core.Bool.{Bool, true, not, _&&_, _||_, cond}
+use Prim.Native.Nat.{ℕ, _-_, _*_}
+use mathlib.Core.Bool.{Bool, true, not, cond}
 use mathlib.Core.List.{List, [], _∷_}
 use lib.Dec.{eqb}
 use lib.ListN.{getD}
 use lib.Bits.{bitAnd, bitOr}
+use Rattle.answer.specs.Rows.{between}
 use Rattle.isa.specs.declared.CsrOp.{CsrOp}
 use Rattle.isa.specs.declared.CsrOp.the-variants.{Rw, Rs, Rc}
 use Rattle.isa.specs.declared.XReg.{XReg}
-use Rattle.memory.specs.Address.{tidOf as tid}
 use Rattle.warp.specs.declared.Fixed.{Fixed}
 use Rattle.warp.specs.declared.Warp.{Warp}
-use Rattle.warp.specs.Warp.{withRpc, withPrint, writeX, next, Answer, answer}
-use Rattle.warp.specs.WellFormed.{between}
+use Rattle.warp.specs.Warp.{withRpc, withPrint, writeX, next}
 
+-- TID: the number of the warp's first thread in its group
 abbrev pub tidOf : Fixed → ℕ
-tidOf f = tid (f .wid) (f .numt)
+tidOf f = f .wid * f .numt
 
 -- TID, NUMW, NUMT, KNL, WGID, WID, LDS, PDS, GIDX, GIDY, GIDZ, PRINT, RPC
 abbrev pub csrs : Warp → List ℕ
@@ -63,9 +63,6 @@ csrNew Rw old y = y
 csrNew Rs old y = bitOr old y
 csrNew Rc old y = old - bitAnd old y
 
--- CSR n goes to rd, and changes by the operand y, which field rs1 names or is; refusal 7 where there is no CSR n, or it is written and can't be
-unfoldable pub csrOf : CsrOp → ℕ → XReg → ℕ → ℕ → Warp → Answer
-csrOf op n rd rs1 y w =
-    cond (isCsr n && (not (writesOf op rs1) || (isPrint n || isRpc n)))
-    (answer 0 (next (writeX rd (csrAt n w) (cond (writesOf op rs1) (withCsr n (csrNew op (csrAt n w) y) w) w))))
-    (answer 7 w)
+-- CSR n goes to rd, and changes by the operand y, which field rs1 names or is
+unfoldable pub csrDone : CsrOp → ℕ → XReg → ℕ → ℕ → Warp → Warp
+csrDone op n rd rs1 y w = next (writeX rd (csrAt n w) (cond (writesOf op rs1) (withCsr n (csrNew op (csrAt n w) y) w) w))

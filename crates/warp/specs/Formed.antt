@@ -10,16 +10,18 @@ use lib.ListN.{getD, set, drop, length, length-set}
 use lib.Seq.{getD-set-same, getD-set-other, drop-set-lt}
 use lib.Pow.{pow-mono}
 use borrow.Author.Tests.{eq-eqb, eqb-true, eqb-false, leb-true, le-leb, ltb-true, not-true}
+use Rattle.answer.specs.Rows.{between}
+use Rattle.answer.proofs.Rows.{both, every-at}
 use Rattle.isa.specs.declared.XReg.{XReg}
 use Rattle.warp.specs.declared.Split.{Split}
 use Rattle.warp.specs.declared.Fixed.{Fixed}
 use Rattle.warp.specs.declared.Warp.{Warp}
 use Rattle.warp.specs.Warp.{splitCount, maxThreads, maxWarps, zeroSplit, aligned, withPc, withRpc, withPrint, withStop, setX, writeX, nextPc, next}
-use Rattle.warp.specs.WellFormed.{between, fixedOkOf, chainOf, isZero, allZero, wellFormedOf}
+use Rattle.warp.specs.WellFormed.{fixedOkOf, chainOf, isZero, allZero, wellFormedOf}
 use Rattle.warp.specs.Splits.{openOf, lastSplit, turned, turnOf, closeOf, joinOf, setRpcOf}
 use Rattle.warp.specs.SplitLaws.{by-cond}
 use Rattle.warp.specs.Csr.{tidOf}
-use Rattle.warp.specs.Chain.{both, every-at, zero-step, chain-le}
+use Rattle.warp.specs.Chain.{zero-step, chain-le}
 use Rattle.warp.specs.Moves.{Cuts, Held, held, opens, joins, fits, last-good}
 
 -- ---- the fixed values

@@ -7,4 +7,3 @@ pub mod CsrLaws
 pub mod Chain
 pub mod Moves
 pub mod Formed
-pub mod Cases

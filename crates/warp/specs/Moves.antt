@@ -15,13 +15,14 @@ use lib.Count.{ones, ones-le}
 use borrow.Author.Tests.{eqb-false}
 use Rattle.warp.specs.declared.Split.{Split}
 use Rattle.warp.specs.declared.Warp.{Warp}
+use Rattle.answer.proofs.Rows.{both}
 use Rattle.lanes.specs.Mask.{bitAt}
 use Rattle.lanes.specs.MaskLaws.{cut-bit, cut-ones, ones-pos}
 use Rattle.warp.specs.Warp.{splitCount, maxThreads, zeroSplit}
 use Rattle.warp.specs.WellFormed.{splitOkOf, chainOf}
 use Rattle.warp.specs.Splits.{opened, openOf, lastSplit, turned, turnOf, closeOf, joinOf}
 use Rattle.warp.specs.SplitLaws.{by-cond}
-use Rattle.warp.specs.Chain.{both, Good, good, parkedIn, covered, fewer, chain-step, chain-set, chain-more}
+use Rattle.warp.specs.Chain.{Good, good, parkedIn, covered, fewer, chain-step, chain-set, chain-more}
 
 -- active lanes that disagree: those of e, some but not all, go to p
 pub record Cuts (e p : ℕ) (w : Warp) : Type 0 where

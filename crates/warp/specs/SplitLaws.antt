@@ -1,25 +1,16 @@
 -- JOIN and VBRANCH, case by case.
-use Prim.Native.Nat.{ℕ, _%_}
+use Prim.Native.Nat.{ℕ}
 use mathlib.Core.Path.{_≡_, refl}
 use mathlib.Core.Bool.{Bool, true, false, cond}
 use borrow.Author.Tests.{eq-eqb, ne-eqb}
 use Rattle.warp.specs.declared.Warp.{Warp}
-use Rattle.warp.specs.Warp.{withPc, next, answer, reachOf}
-use Rattle.warp.specs.Splits.{openOf, vbranchOf, lastSplit, turnOf, closeOf, joinOf}
+use Rattle.warp.specs.Warp.{withPc, next}
+use Rattle.warp.specs.Splits.{openOf, parted, lastSplit, turnOf, closeOf, joinOf}
 
 -- a choice has what both of its sides have
 abbrev pub by-cond : {A : Type 0} (P : A → Type 0) (b : Bool) (x y : A) → (b ≡ true → P x) → (b ≡ false → P y) → P (cond b x y)
 by-cond P true x y f g = f refl
 by-cond P false x y f g = g refl
-
-module _ (p : ℕ) (v w : Warp) where
-  pub reach-goes : p % 4 ≡ 0 → answer 0 v ≡ reachOf p v w
-  unfolding reachOf
-  reach-goes a = simp (eq-eqb _ _ a)
-
-  pub reach-stays : (p % 4 ≡ 0 → ⊥) → answer 8 w ≡ reachOf p v w
-  unfolding reachOf
-  reach-stays a = simp (ne-eqb _ _ a)
 
 pub join-none : (w : Warp) → w .depth ≡ 0 → next w ≡ joinOf w
 unfolding joinOf
@@ -40,20 +31,15 @@ module _ (w : Warp) (d : w .depth ≡ 0 → ⊥) where
     join-close s = simp (ne-eqb _ _ d, eq-eqb _ _ p, s)
 
 module _ (e p : ℕ) (w : Warp) where
-  pub vbranch-none : e ≡ 0 → answer 0 (next w) ≡ vbranchOf e p w
-  unfolding vbranchOf
-  vbranch-none z = simp (eq-eqb _ _ z)
+  pub parted-none : e ≡ 0 → next w ≡ parted e p w
+  unfolding parted
+  parted-none z = simp (eq-eqb _ _ z)
 
   module _ (z : e ≡ 0 → ⊥) where
-    pub vbranch-refused : (p % 4 ≡ 0 → ⊥) → answer 8 w ≡ vbranchOf e p w
-    unfolding vbranchOf reachOf
-    vbranch-refused a = simp (ne-eqb _ _ z, ne-eqb _ _ a)
+    pub parted-all : e ≡ w .mask → withPc p w ≡ parted e p w
+    unfolding parted
+    parted-all m = simp (ne-eqb _ _ z, eq-eqb _ _ m)
 
-    module _ (a : p % 4 ≡ 0) where
-      pub vbranch-all : e ≡ w .mask → answer 0 (withPc p w) ≡ vbranchOf e p w
-      unfolding vbranchOf reachOf
-      vbranch-all m = simp (ne-eqb _ _ z, eq-eqb _ _ a, eq-eqb _ _ m)
-
-      pub vbranch-opens : (e ≡ w .mask → ⊥) → answer 0 (openOf e p w) ≡ vbranchOf e p w
-      unfolding vbranchOf reachOf
-      vbranch-opens m = simp (ne-eqb _ _ z, eq-eqb _ _ a, ne-eqb _ _ m)
+    pub parted-opens : (e ≡ w .mask → ⊥) → openOf e p w ≡ parted e p w
+    unfolding parted
+    parted-opens m = simp (ne-eqb _ _ z, ne-eqb _ _ m)

@@ -6,7 +6,7 @@ use lib.ListN.{getD, set}
 use Rattle.isa.specs.declared.XReg.{XReg}
 use Rattle.warp.specs.declared.Split.{Split}
 use Rattle.warp.specs.declared.Warp.{Warp}
-use Rattle.warp.specs.Warp.{zeroSplit, withPc, withRpc, withSplits, writeX, readX, next, Answer, answer, reachOf}
+use Rattle.warp.specs.Warp.{zeroSplit, withPc, withRpc, withSplits, writeX, readX, next}
 use Rattle.word.specs.Word.{addOf, extendOf}
 
 -- the split that opens: the lanes of e want p
@@ -18,8 +18,8 @@ unfoldable pub openOf : ℕ → ℕ → Warp → Warp
 openOf e p w = next (withSplits (set (w .splits) (w .depth) (opened e p w)) (w .depth + 1) (w .mask - e) w)
 
 -- VBRANCH, where the lanes of e want the else PC p: all agree, and there is no split, or one opens
-unfoldable pub vbranchOf : ℕ → ℕ → Warp → Answer
-vbranchOf e p w = cond (eqb e 0) (answer 0 (next w)) (reachOf p (cond (eqb e (w .mask)) (withPc p w) (openOf e p w)) w)
+unfoldable pub parted : ℕ → ℕ → Warp → Warp
+parted e p w = cond (eqb e 0) (next w) (cond (eqb e (w .mask)) (withPc p w) (openOf e p w))
 
 -- the last split opened
 abbrev pub lastSplit : Warp → Split

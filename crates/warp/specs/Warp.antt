@@ -118,27 +118,23 @@ nextPc w = addOf (w .pc) 4
 abbrev pub next : Warp → Warp
 next w = withPc (nextPc w) w
 
--- ---- what a word answers that touches the warp alone
-
-pub record Answer : Type 0 where
-  pub code : ℕ
-  pub warp : Warp
-
-abbrev pub answer : ℕ → Warp → Answer
-answer c w = record { code = c; warp = w }
-
 -- a multiple of 4
 abbrev pub aligned : ℕ → Bool
 aligned p = eqb (p % 4) 0
 
--- where w goes to the PC p and is v then; refusal 8 if p isn't a multiple of 4
-unfoldable pub reachOf : ℕ → Warp → Warp → Answer
-reachOf p v w = cond (aligned p) (answer 0 v) (answer 8 w)
-
--- a jump or a taken branch
-abbrev pub jumpOf : ℕ → Warp → Answer
-jumpOf p w = reachOf p (withPc p w) w
-
 -- a jump that keeps the next PC in rd
-abbrev pub linkOf : XReg → ℕ → Warp → Answer
-linkOf rd p w = reachOf p (withPc p (writeX rd (nextPc w) w)) w
+abbrev pub linked : XReg → ℕ → Warp → Warp
+linked rd p w = withPc p (writeX rd (nextPc w) w)
+
+-- a branch: where it is taken, to p
+abbrev pub branched : Bool → ℕ → Warp → Warp
+branched t p w = cond t (withPc p w) (next w)
+
+-- ---- what a call leaves that lends no run: its number (0, or that of the refusal) and the warp
+
+pub record Answered : Type 0 where
+  pub code : ℕ
+  pub warp : Warp
+
+abbrev pub answered : ℕ → Warp → Answered
+answered c w = record { code = c; warp = w }

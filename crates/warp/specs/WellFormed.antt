@@ -8,17 +8,9 @@ use Rattle.warp.specs.declared.Split.{Split}
 use Rattle.warp.specs.declared.Fixed.{Fixed}
 use Rattle.warp.specs.declared.Launch.{Launch}
 use Rattle.warp.specs.declared.Warp.{Warp}
+use Rattle.answer.specs.Rows.{every, between}
 use Rattle.lanes.specs.Mask.{inside}
 use Rattle.warp.specs.Warp.{splitCount, maxThreads, maxWarps, zeroSplit, aligned}
-
--- every test of a list holds
-abbrev pub every : List Bool → Bool
-every [] = true
-every (t ∷ []) = t
-every (t ∷ u ∷ ts) = t && every (u ∷ ts)
-
-abbrev pub between : ℕ → ℕ → ℕ → Bool
-between low n high = leb low n && leb n high
 
 -- NUMT, NUMW, WID, launch mask and code base in range
 unfoldable pub fixedOkOf : Fixed → Bool

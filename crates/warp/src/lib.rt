@@ -1,8 +1,7 @@
 ghost use mathlib.Core.Path.{_≡_};
-ghost use Prim.Native.Nat.{_-_, _^_, _≤_};
-ghost use lib.ListN.{drop};
-ghost use Rattle.warp.specs.Warp.{splitCount, maxThreads, zeroSplit, zeroFixed, zeroLaunch, zeroWarp};
-ghost use Rattle.warp.specs.WellFormed.{runningOf, splitOkOf, isZero, chainOf, allZero, fixedOkOf, launchOkOf, wellFormedOf};
+ghost use Prim.Native.Nat.{_^_, _≤_};
+ghost use Rattle.warp.specs.Warp.{maxThreads, zeroSplit, zeroFixed, zeroLaunch, zeroWarp};
+ghost use Rattle.warp.specs.WellFormed.{fixedOkOf, launchOkOf};
 
 // Threads in a warp, warps in the group, and room for open splits.
 const THREADS: u32 = 32;
@@ -114,72 +113,6 @@ pub fn zero_warp() -> Warp
     }
 }
 
-// f less e, and 0 where e is more.
-fn less(f: u32, e: u32) -> u32
-    ensures { λ r. ⌜ r ≡ f - e ⌝ }
-{
-    if e <= f { f - e } else { 0 }
-}
-
-// The lanes of an open split that run.
-fn running(s: Split) -> u32
-    ensures { λ r. ⌜ r ≡ runningOf s ⌝ }
-{
-    if s.phasetwo {
-        s.elsemask
-    } else {
-        less(s.full, s.elsemask)
-    }
-}
-
-// One open split, whose running part is to be m.
-fn split_ok(s: Split, m: u32) -> bool
-    ensures { λ r. ⌜ r ≡ splitOkOf s m ⌝ }
-{
-    let e = s.elsemask;
-    let f = s.full;
-    let r = running(s);
-    (e != 0) & (((e & f) == e) & ((e != f) & ((s.elsepc % 4 == 0) & (r == m))))
-}
-
-fn split_zero(s: Split) -> bool
-    ensures { λ r. ⌜ r ≡ isZero s ⌝ }
-{
-    (s.rpc == 0) & ((s.full == 0) & ((s.elsemask == 0) & ((s.elsepc == 0) & !s.phasetwo)))
-}
-
-// The chain of open splits, from the last one opened back to the launch.
-fn chain_ok(w: Warp) -> bool
-    requires { ⌜ w .depth ≤ splitCount ⌝ }
-    ensures { λ r. ⌜ r ≡ chainOf (w .fixed .launchmask) (w .splits) (w .depth) (w .mask) ⌝ }
-{
-    let mut m = w.mask;
-    let mut i = w.depth;
-    while 0 < i {
-        i = i - 1;
-        let s = w.splits[i];
-        if !split_ok(s, m) {
-            return false;
-        }
-        m = s.full;
-    }
-    m == w.fixed.launchmask
-}
-
-fn unused_ok(w: Warp) -> bool
-    ensures { λ r. ⌜ r ≡ allZero (drop (w .depth) (w .splits)) ⌝ }
-{
-    let mut i = w.depth;
-    while i < SPLITS {
-        let s = w.splits[i];
-        if !split_zero(s) {
-            return false;
-        }
-        i = i + 1;
-    }
-    true
-}
-
 // 2 to the power n: one more than the greatest mask of n lanes.
 fn mask_room(n: u32) -> u64
     requires { ⌜ n ≤ maxThreads ⌝ }
@@ -207,22 +140,4 @@ pub fn launch_ok(l: Launch) -> bool
     let f = l.fixed;
     let fixed = fixed_ok(f);
     fixed & (l.entry % 4 == 0)
-}
-
-pub fn well_formed(w: Warp) -> bool
-    ensures { λ r. ⌜ r ≡ wellFormedOf w ⌝ }
-{
-    let d = w.depth;
-    if SPLITS < d {
-        return false;
-    }
-    let f = w.fixed;
-    let fixed = fixed_ok(f);
-    let unused = unused_ok(w);
-    let chain = chain_ok(w);
-    fixed
-        & ((w.pc % 4 == 0)
-            & ((w.x[0] == 0)
-                & (unused
-                    & (!(w.ended & w.waiting) & (chain & !((w.ended | w.waiting) & (0 < d)))))))
 }

@@ -1,6 +1,7 @@
 // The 32-bit word operations that scalar and lane instructions share.
 ghost use mathlib.Core.Path.{_≡_};
 ghost use Prim.Native.Nat.{_≤_, _<_, _^_};
+ghost use lib.Dec.{ltb};
 ghost use Rattle.word.specs.Word.{signed, asWord, lessOf, flagOf, pick, addOf, subOf, sllOf, srlOf, sraOf, mulOf, mulhOf, mulhsuOf, mulhuOf, divOf, divuOf, remOf, remuOf, applyOf, holdsOf, extendOf};
 
 // What an instruction does with two words. Slt and Sltu are a lane compare too; the names from Seq on are lane compares, and Move gives the second word.
@@ -93,19 +94,19 @@ pub fn sub(a: u32, b: u32) -> u32
     std::num::wrapping_sub_u32(a, b)
 }
 
-fn sll(a: u32, b: u32) -> u32
+pub fn sll(a: u32, b: u32) -> u32
     ensures { λ r. ⌜ r ≡ sllOf a b ⌝ }
 {
     a << (b % 32)
 }
 
-fn srl(a: u32, b: u32) -> u32
+pub fn srl(a: u32, b: u32) -> u32
     ensures { λ r. ⌜ r ≡ srlOf a b ⌝ }
 {
     a >> (b % 32)
 }
 
-fn sra(a: u32, b: u32) -> u32
+pub fn sra(a: u32, b: u32) -> u32
     ensures { λ r. ⌜ r ≡ sraOf a b ⌝ }
 {
     word(value(a) >> ((b % 32) as i32))
@@ -118,31 +119,43 @@ fn less(a: u32, b: u32) -> bool
     value(a) < value(b)
 }
 
+pub fn slt(a: u32, b: u32) -> u32
+    ensures { λ r. ⌜ r ≡ flagOf (lessOf a b) ⌝ }
+{
+    flag(less(a, b))
+}
+
+pub fn sltu(a: u32, b: u32) -> u32
+    ensures { λ r. ⌜ r ≡ flagOf (ltb a b) ⌝ }
+{
+    flag(a < b)
+}
+
 pub fn mul(a: u32, b: u32) -> u32
     ensures { λ r. ⌜ r ≡ mulOf a b ⌝ }
 {
     ((a as u64) * (b as u64) % 0x1_0000_0000) as u32
 }
 
-fn mulhu(a: u32, b: u32) -> u32
+pub fn mulhu(a: u32, b: u32) -> u32
     ensures { λ r. ⌜ r ≡ mulhuOf a b ⌝ }
 {
     ((a as u64) * (b as u64) / 0x1_0000_0000) as u32
 }
 
-fn mulh(a: u32, b: u32) -> u32
+pub fn mulh(a: u32, b: u32) -> u32
     ensures { λ r. ⌜ r ≡ mulhOf a b ⌝ }
 {
     word(((value(a) as i64) * (value(b) as i64) >> 32) as i32)
 }
 
-fn mulhsu(a: u32, b: u32) -> u32
+pub fn mulhsu(a: u32, b: u32) -> u32
     ensures { λ r. ⌜ r ≡ mulhsuOf a b ⌝ }
 {
     word(((value(a) as i64) * (b as i64) >> 32) as i32)
 }
 
-fn divu(a: u32, b: u32) -> u32
+pub fn divu(a: u32, b: u32) -> u32
     ensures { λ r. ⌜ r ≡ divuOf a b ⌝ }
 {
     if b == 0 {
@@ -151,7 +164,7 @@ fn divu(a: u32, b: u32) -> u32
     a / b
 }
 
-fn remu(a: u32, b: u32) -> u32
+pub fn remu(a: u32, b: u32) -> u32
     ensures { λ r. ⌜ r ≡ remuOf a b ⌝ }
 {
     if b == 0 {
@@ -161,7 +174,7 @@ fn remu(a: u32, b: u32) -> u32
 }
 
 // By -1 apart, since -2^31 by -1 is no i32.
-fn div(a: u32, b: u32) -> u32
+pub fn div(a: u32, b: u32) -> u32
     ensures { λ r. ⌜ r ≡ divOf a b ⌝ }
 {
     if b == 0 {
@@ -173,7 +186,7 @@ fn div(a: u32, b: u32) -> u32
     word(value(a) / value(b))
 }
 
-fn rem(a: u32, b: u32) -> u32
+pub fn rem(a: u32, b: u32) -> u32
     ensures { λ r. ⌜ r ≡ remOf a b ⌝ }
 {
     if b == 0 {
@@ -196,8 +209,8 @@ pub fn apply(op: Op, a: u32, b: u32) -> u32
         Op::Sll => sll(a, b),
         Op::Srl => srl(a, b),
         Op::Sra => sra(a, b),
-        Op::Slt => flag(less(a, b)),
-        Op::Sltu => flag(a < b),
+        Op::Slt => slt(a, b),
+        Op::Sltu => sltu(a, b),
         Op::And => a & b,
         Op::Or => a | b,
         Op::Xor => a ^ b,
@@ -217,8 +230,8 @@ pub fn apply(op: Op, a: u32, b: u32) -> u32
         Op::Sne => flag(a != b),
         Op::Sle => flag(!less(b, a)),
         Op::Sleu => flag(a <= b),
-        Op::Sgt => flag(less(b, a)),
-        Op::Sgtu => flag(b < a),
+        Op::Sgt => slt(b, a),
+        Op::Sgtu => sltu(b, a),
         Op::Move => b,
     }
 }

@@ -1,41 +1,35 @@
-use Rattle.capi.proofs.Laws.{release-size, release-call}
+use mathlib.Core.Path.{_≡_}
+use Rattle.warp.specs.Warp.{answered}
+use Rattle.saved.specs.Saved.{restoreOf}
+use Rattle.capi.proofs.Laws.{release-refused, release-call}
 use borrow.Author.Needs.{needs}
 use Rattle.capi.proofs.bench_release.Statement.{statement}
 use Rattle.capi.proofs.bench_release.Tie as tie
 
+-- what the state says
+state-is : (c : tie.After-number) → answered (c .number .result) (c .before .restore .result .warp) ≡ restoreOf (c .before .before .before .before .args .state .now)
+state-is c = rw (c .number .ensures) (c .before .restore .ensures)
+
 returns : tie.Need-returns
-returns c = release-size _ (c .if1 .taken)
-
-handed-requires : tie.Need-handed-requires
-handed-requires c κs = search needs
-
-release-requires : tie.Need-release-requires
-release-requires c κs = search needs
-
-save-requires : tie.Need-save-requires
-save-requires c κs = search needs
-
-number-requires : tie.Need-number-requires
-number-requires c κs = search needs
-
-same-length : tie.Need-same-length
-same-length c = search needs
+returns c = release-refused _ _ _ (state-is (c .before)) (c .if1 .taken)
 
 returns-2 : tie.Need-returns-2
 returns-2 c =
     let save = c .before .before .before in
     let release = save .before .before .before in
-    let handed = release .before in
-    rw (c .number .ensures) (release-call _ (handed .before .before .if1 .left) _ _ _ _ _ (handed .handed .ensures) (release .release .ensures) (save .save .ensures))
+    let taken = release .before .before in
+    rw (c .number2 .ensures) (release-call _ _ _ (state-is (taken .before)) (taken .if1 .left) _ _ _ _ (release .release .ensures) (save .save .ensures))
 
 pub bench-release-spec : {M : Type 1} → statement M
 bench-release-spec =
     tie.close
     (tie.spec
+    (λ c κs. search needs)
+    (λ c κs. search needs)
+    (λ c. search needs)
     returns
-    handed-requires
-    release-requires
-    save-requires
-    number-requires
-    same-length
+    (λ c κs. search needs)
+    (λ c κs. search needs)
+    (λ c κs. search needs)
+    (λ c. search needs)
     returns-2)

@@ -7,21 +7,6 @@ use borrow.Author.Needs.{needs}
 use Rattle.card.proofs.half_at.Statement.{statement}
 use Rattle.card.proofs.half_at.Tie as tie
 
-byte-at-requires : tie.Need-byte-at-requires
-byte-at-requires c κs = search needs
-
-add-byte-at : tie.Need-add-byte-at
-add-byte-at c = search needs
-
-byte-at-requires-2 : tie.Need-byte-at-requires-2
-byte-at-requires-2 c κs = search needs
-
-mul-result : tie.Need-mul-result
-mul-result c = search needs
-
-add-result : tie.Need-add-result
-add-result c = search needs
-
 returns : tie.Need-returns
 returns c =
     let s = c .before .before .before .args in
@@ -29,4 +14,12 @@ returns c =
     (omega arith, omega arith)
 
 pub half-at-spec : {M : Type 1} → statement M
-half-at-spec = tie.close (tie.spec byte-at-requires add-byte-at byte-at-requires-2 mul-result add-result returns)
+half-at-spec =
+    tie.close
+    (tie.spec
+    (λ c κs. search needs)
+    (λ c. search needs)
+    (λ c κs. search needs)
+    (λ c. search needs)
+    (λ c. search needs)
+    returns)

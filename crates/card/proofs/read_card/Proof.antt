@@ -1,36 +1,18 @@
 use borrow.Author.Tests.{not-true, not-false}
 use mathlib.Core.Path.{sym, ap, _∙_}
 use Rattle.warp.specs.WellFormed.{launchOkOf}
-use Rattle.card.specs.CardLaws.{read-total, read-head, read-range, read-done}
+use Rattle.card.proofs.CardLaws.{read-total, read-head, read-range, read-done}
 use borrow.Author.Needs.{needs}
 use Rattle.card.proofs.read_card.Statement.{statement}
 use Rattle.card.proofs.read_card.Tie as tie
 
-refused-requires : tie.Need-refused-requires
-refused-requires c κs = search needs
-
 returns : tie.Need-returns
 returns c = rw (c .refused .ensures) (read-total _ (c .before .if1 .taken))
-
-head-ok-requires : tie.Need-head-ok-requires
-head-ok-requires c κs = search needs
-
-refused-requires-2 : tie.Need-refused-requires-2
-refused-requires-2 c κs = search needs
 
 returns-2 : tie.Need-returns-2
 returns-2 c =
     let h = c .before .before in
     rw (c .refused2 .ensures) (read-head _ (h .before .if1 .left) (sym (h .head-ok .ensures) ∙ not-true _ (c .before .if2 .taken)))
-
-launch-at-requires : tie.Need-launch-at-requires
-launch-at-requires c κs = search needs
-
-launch-ok-requires : tie.Need-launch-ok-requires
-launch-ok-requires c κs = search needs
-
-refused-requires-3 : tie.Need-refused-requires-3
-refused-requires-3 c κs = search needs
 
 returns-3 : tie.Need-returns-3
 returns-3 c =
@@ -52,13 +34,13 @@ pub read-card-spec : {M : Type 1} → statement M
 read-card-spec =
     tie.close
     (tie.spec
-    refused-requires
+    (λ c κs. search needs)
     returns
-    head-ok-requires
-    refused-requires-2
+    (λ c κs. search needs)
+    (λ c κs. search needs)
     returns-2
-    launch-at-requires
-    launch-ok-requires
-    refused-requires-3
+    (λ c κs. search needs)
+    (λ c κs. search needs)
+    (λ c κs. search needs)
     returns-3
     returns-4)

@@ -7,21 +7,6 @@ use borrow.Author.Needs.{needs}
 use Rattle.card.proofs.word_at.Statement.{statement}
 use Rattle.card.proofs.word_at.Tie as tie
 
-half-at-requires : tie.Need-half-at-requires
-half-at-requires c κs = search needs
-
-add-half-at : tie.Need-add-half-at
-add-half-at c = search needs
-
-half-at-requires-2 : tie.Need-half-at-requires-2
-half-at-requires-2 c κs = search needs
-
-mul-result : tie.Need-mul-result
-mul-result c = search needs
-
-add-result : tie.Need-add-result
-add-result c = search needs
-
 returns : tie.Need-returns
 returns c =
     let s = c .before .before .before .args in
@@ -30,4 +15,12 @@ returns c =
     omega arith
 
 pub word-at-spec : {M : Type 1} → statement M
-word-at-spec = tie.close (tie.spec half-at-requires add-half-at half-at-requires-2 mul-result add-result returns)
+word-at-spec =
+    tie.close
+    (tie.spec
+    (λ c κs. search needs)
+    (λ c. search needs)
+    (λ c κs. search needs)
+    (λ c. search needs)
+    (λ c. search needs)
+    returns)

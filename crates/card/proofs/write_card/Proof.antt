@@ -1,8 +1,8 @@
 use borrow.Author.Tests.{not-true, not-false}
 use mathlib.Core.Path.{sym, ap, _∙_}
 use Rattle.card.specs.Card.{valuesOf, cardOf, writing}
-use Rattle.card.specs.LayoutLaws.{puts-all}
-use Rattle.card.specs.CardLaws.{write-total, write-range, write-done}
+use Rattle.card.proofs.LayoutLaws.{puts-all}
+use Rattle.card.proofs.CardLaws.{write-total, write-range, write-done}
 use native.Mathlib.Omega.{arith}
 use borrow.Author.Needs.{needs}
 use Rattle.card.proofs.write_card.Statement.{statement}
@@ -11,20 +11,8 @@ use Rattle.card.proofs.write_card.Tie as tie
 returns : tie.Need-returns
 returns c = write-total _ _ (λ e. omega arith)
 
-launch-ok-requires : tie.Need-launch-ok-requires
-launch-ok-requires c κs = search needs
-
 returns-2 : tie.Need-returns-2
-returns-2 c = write-range _ _ (sym (c .before .launch-ok .ensures) ∙ not-true _ (c .if2 .taken))
-
-put-first-requires : tie.Need-put-first-requires
-put-first-requires c κs = search needs
-
-put-later-requires : tie.Need-put-later-requires
-put-later-requires c κs = search needs
-
-same-length : tie.Need-same-length
-same-length c = search needs
+returns-2 c = write-range _ _ (omega arith) (sym (c .before .launch-ok .ensures) ∙ not-true _ (c .if2 .taken))
 
 returns-3 : tie.Need-returns-3
 unfolding cardOf
@@ -41,9 +29,9 @@ write-card-spec =
     tie.close
     (tie.spec
     returns
-    launch-ok-requires
+    (λ c κs. search needs)
     returns-2
-    put-first-requires
-    put-later-requires
-    same-length
+    (λ c κs. search needs)
+    (λ c κs. search needs)
+    (λ c. search needs)
     returns-3)

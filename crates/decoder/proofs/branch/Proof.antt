@@ -1,24 +1,26 @@
--- `decoder::branch` meets its contract: what the table has at funct3. Assumes nothing.
-use borrow.Author.Needs.{needs}
+-- `decoder::branch` meets its contract: each arm is a row, or rows that adjoin. Assumes nothing.
 use mathlib.Core.List.{[]}
+use native.Mathlib.Omega.{arith}
+use Rattle.isa.specs.Fields.{fieldsOf}
 use Rattle.isa.specs.Scalar.{conditions, branchAs, branchOf}
-use Rattle.decoder.proofs.Laws.{found-at, nothing-at, condition-answer}
+use Rattle.isa.specs.Kinds.{condOf, rowOf}
+use Rattle.isa.proofs.Tables.{range-in, range-out}
+use Rattle.word.specs.declared.Cond.the-variants as C
 use Rattle.decoder.proofs.branch.Statement.{statement}
 use Rattle.decoder.proofs.branch.Tie as tie
 
 pub branch-spec : {M : Type 1} → statement M
-unfolding branchOf
+unfolding rowOf branchOf condOf
 branch-spec =
     tie.close
     (tie.spec
-    (λ c κs. search needs)
-    (λ c. search needs)
-    (λ c κs. search needs)
-    (λ c. search needs)
     (λ c.
-    let f = c .before .before .before .before .before .args .c in
-    rw (c .imm-b .ensures)
-    (found-at condition-answer branchAs f (f .funct3) [] conditions _ _ (c .before .before .before .before .condition .ensures) (c .before .before .found .given .1)))
+    let f = fieldsOf (c .before .before .args .w) in
+    range-out branchAs f (f .funct3) [] conditions [] 2 2 (omega arith) (omega arith) tt tt)
+    (λ c. absurd (omega arith))
     (λ c.
-    let f = c .before .before .before .args .c in
-    nothing-at condition-answer branchAs f (f .funct3) [] conditions _ (c .before .before .condition .ensures) (c .enum-told .given .1)))
+    let f = fieldsOf (c .before .args .w) in
+    range-in branchAs f (f .funct3) [] conditions [] 0 2 (omega arith) (omega arith) tt C.Geu tt)
+    (λ c.
+    let f = fieldsOf (c .before .before .before .args .w) in
+    range-in branchAs f (f .funct3) [] conditions [] 4 4 (omega arith) (omega arith) tt C.Geu tt))

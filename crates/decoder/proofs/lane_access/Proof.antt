@@ -1,27 +1,29 @@
--- `decoder::lane_access` meets its contract: what the table has at funct3. Assumes nothing.
+-- `decoder::lane_access` meets its contract: each arm is a row, or rows that adjoin. Assumes nothing.
 use mathlib.Core.Path.{_∙_}
-use borrow.Author.Needs.{needs}
+use mathlib.Core.List.{[], _∷_}
+use native.Mathlib.Omega.{arith}
+use Rattle.isa.specs.Fields.{fieldsOf}
 use Rattle.isa.specs.Table.{wordsOf}
 use Rattle.isa.specs.Scalar.{loads}
 use Rattle.isa.specs.Ventus.{vstores, vloadAs, vstoreAs, laneAccessOf}
-use Rattle.decoder.proofs.Laws.{found-at, nothing-at, load-answer}
+use Rattle.isa.specs.Kinds.{loadOpOf, laneStoreOpOf, rowOf}
+use Rattle.isa.proofs.Tables.{range-in, range-out}
+use Rattle.isa.specs.declared.LoadOp.the-variants as L
+use Rattle.isa.specs.declared.StoreOp.the-variants as S
 use Rattle.decoder.proofs.lane_access.Statement.{statement}
 use Rattle.decoder.proofs.lane_access.Tie as tie
 
 pub lane-access-spec : {M : Type 1} → statement M
-unfolding laneAccessOf
+unfolding rowOf laneAccessOf loadOpOf laneStoreOpOf
 lane-access-spec =
     tie.close
     (tie.spec
-    (λ c κs. search needs)
-    (λ c. search needs)
-    (λ c κs. search needs)
-    (λ c. search needs)
-    (λ c κs. search needs)
     (λ c.
-    let f = c .before .before .before .before .before .args .c in
-    rw (c .imm-i .ensures)
-    (found-at load-answer vloadAs f (f .funct3) (wordsOf vstoreAs vstores) loads _ _ (c .before .before .before .before .load-op .ensures) (c .before .before .found .given .1)))
+    let f = fieldsOf (c .before .before .args .w) in
+    range-in vloadAs f (f .funct3) (wordsOf vstoreAs vstores) loads (3 ∷ []) 0 6 (omega arith) (omega arith) (c .before .match .rest) L.Hu tt)
+    (λ c. absurd (omega arith))
+    (λ c. simp (c .match .keys1))
     (λ c.
-    let f = c .before .before .before .before .args .c in
-    c .vstore .ensures ∙ nothing-at load-answer vloadAs f (f .funct3) (wordsOf vstoreAs vstores) loads _ (c .before .before .before .load-op .ensures) (c .before .enum-told .given .1)))
+    let f = fieldsOf (c .before .before .before .args .w) in
+    range-in vstoreAs f (f .funct3) [] vstores [] 6 2 (omega arith) (omega arith) tt S.W tt
+    ∙ range-out vloadAs f (f .funct3) (wordsOf vstoreAs vstores) loads [] 6 2 (omega arith) (omega arith) tt tt))

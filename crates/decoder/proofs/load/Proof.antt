@@ -1,24 +1,28 @@
--- `decoder::load` meets its contract: what the table has at funct3. Assumes nothing.
-use borrow.Author.Needs.{needs}
+-- `decoder::load` meets its contract: each arm is a row, or rows that adjoin. Assumes nothing.
 use mathlib.Core.List.{[]}
+use native.Mathlib.Omega.{arith}
+use Rattle.isa.specs.Fields.{fieldsOf}
 use Rattle.isa.specs.Scalar.{loads, loadAs, loadOf}
-use Rattle.decoder.proofs.Laws.{found-at, nothing-at, load-answer}
+use Rattle.isa.specs.Kinds.{loadOpOf, rowOf}
+use Rattle.isa.proofs.Tables.{range-in, range-out}
+use Rattle.isa.specs.declared.LoadOp.the-variants as L
 use Rattle.decoder.proofs.load.Statement.{statement}
 use Rattle.decoder.proofs.load.Tie as tie
 
 pub load-spec : {M : Type 1} → statement M
-unfolding loadOf
+unfolding rowOf loadOf loadOpOf
 load-spec =
     tie.close
     (tie.spec
-    (λ c κs. search needs)
-    (λ c. search needs)
-    (λ c κs. search needs)
-    (λ c. search needs)
     (λ c.
-    let f = c .before .before .before .before .before .args .c in
-    rw (c .imm-i .ensures)
-    (found-at load-answer loadAs f (f .funct3) [] loads _ _ (c .before .before .before .before .load-op .ensures) (c .before .before .found .given .1)))
+    let f = fieldsOf (c .before .before .args .w) in
+    range-out loadAs f (f .funct3) [] loads [] 3 1 (omega arith) (omega arith) tt tt)
     (λ c.
-    let f = c .before .before .before .args .c in
-    nothing-at load-answer loadAs f (f .funct3) [] loads _ (c .before .before .load-op .ensures) (c .enum-told .given .1)))
+    let f = fieldsOf (c .before .before .before .args .w) in
+    range-out loadAs f (f .funct3) [] loads [] 6 2 (omega arith) (omega arith) tt tt)
+    (λ c.
+    let f = fieldsOf (c .before .args .w) in
+    range-in loadAs f (f .funct3) [] loads [] 0 3 (omega arith) (omega arith) tt L.Hu tt)
+    (λ c.
+    let f = fieldsOf (c .before .before .before .args .w) in
+    range-in loadAs f (f .funct3) [] loads [] 4 2 (omega arith) (omega arith) tt L.Hu tt))

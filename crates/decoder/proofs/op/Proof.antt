@@ -1,17 +1,16 @@
--- `decoder::op` meets its contract: each arm is a row of the table. Assumes nothing.
-use borrow.Author.Needs.{needs}
+-- `decoder::op` meets its contract: funct3, then funct7: each row of the three tables. Assumes nothing.
 use mathlib.Core.Path.{_∙_}
-use mathlib.Core.List.{[]}
-use Rattle.isa.specs.declared.Instr.the-variants.{Refused}
-use Rattle.isa.specs.Table.{on, wordsOf}
-use Rattle.isa.specs.Scalar.{base, multiplies, alternates, byFunct3, ops, opOf}
-use Rattle.isa.specs.Laws.{past}
-use Rattle.decoder.proofs.Laws.{reg-at}
+use mathlib.Core.List.{[], _∷_}
+use native.Mathlib.Omega.{arith}
+use borrow.Author.Needs.{needs}
+use Rattle.answer.proofs.Matches.{excluded}
+use Rattle.isa.specs.Scalar.{opOf, byFunct3}
+use Rattle.isa.specs.Kinds.{rowOf}
 use Rattle.decoder.proofs.op.Statement.{statement}
 use Rattle.decoder.proofs.op.Tie as tie
 
 pub op-spec : {M : Type 1} → statement M
-unfolding opOf
+unfolding rowOf opOf byFunct3
 op-spec =
     tie.close
     (tie.spec
@@ -21,7 +20,14 @@ op-spec =
     (λ c κs. search needs)
     (λ c κs. search needs)
     (λ c κs. search needs)
-    (λ c. simp (c .before .before .match .keys1) (c .reg .ensures ∙ reg-at _ base _ (c .before .base-op .ensures)))
-    (λ c. simp (c .before .before .match .keys2) (c .reg2 .ensures ∙ reg-at _ multiplies _ (c .before .multiply-op .ensures)))
-    (λ c. simp (c .before .before .match .keys3) (c .reg3 .ensures ∙ reg-at _ alternates _ (c .before .alternate-op .ensures)))
-    (λ c. past (on (c .before .args .c)) Refused _ (wordsOf byFunct3 ops) [] (c .match .rest)))
+    (λ c κs. search needs)
+    (λ c κs. search needs)
+    (λ c. c .by-funct7 .ensures (c .before .before .args .w) ∙ simp (c .before .match .keys1))
+    (λ c. c .by-funct72 .ensures (c .before .before .args .w) ∙ simp (c .before .match .keys2))
+    (λ c. c .by-funct73 .ensures (c .before .before .args .w) ∙ simp (c .before .match .keys3))
+    (λ c. c .by-funct74 .ensures (c .before .before .args .w) ∙ simp (c .before .match .keys4))
+    (λ c. c .by-funct75 .ensures (c .before .before .args .w) ∙ simp (c .before .match .keys5))
+    (λ c. c .by-funct76 .ensures (c .before .before .args .w) ∙ simp (c .before .match .keys6))
+    (λ c. c .by-funct77 .ensures (c .before .before .args .w) ∙ simp (c .before .match .keys7))
+    (λ c. c .by-funct78 .ensures (c .before .before .args .w) ∙ simp (c .before .match .keys8))
+    (λ c. absurd (excluded (0 ∷ 1 ∷ 2 ∷ 3 ∷ 4 ∷ 5 ∷ 6 ∷ 7 ∷ []) 8 _ tt (omega arith) (c .match .rest))))

@@ -1,25 +1,31 @@
--- `decoder::op_imm` meets its contract: what the table has at funct3. Assumes nothing.
+-- `decoder::op_imm` meets its contract: each arm is a row. Assumes nothing.
 use mathlib.Core.Path.{_∙_}
+use mathlib.Core.List.{[], _++_}
 use borrow.Author.Needs.{needs}
+use Rattle.isa.specs.declared.Instr.the-variants.{Refused}
+use Rattle.isa.specs.Fields.{fieldsOf}
+use Rattle.isa.specs.Table.{on, wordsOf}
 use Rattle.isa.specs.Scalar.{immediates, immediateAs, shifts, opImmOf}
-use Rattle.decoder.proofs.Laws.{found-at, nothing-at, op-answer}
+use Rattle.isa.specs.Kinds.{rowOf}
+use Rattle.isa.specs.Laws.{past}
 use Rattle.decoder.proofs.op_imm.Statement.{statement}
 use Rattle.decoder.proofs.op_imm.Tie as tie
 
 pub op-imm-spec : {M : Type 1} → statement M
-unfolding opImmOf
+unfolding rowOf opImmOf
 op-imm-spec =
     tie.close
     (tie.spec
     (λ c κs. search needs)
-    (λ c. search needs)
     (λ c κs. search needs)
-    (λ c. search needs)
-    (λ c κs. search needs)
+    (λ c. simp (c .match .keys1))
+    (λ c. simp (c .match .keys2))
+    (λ c. simp (c .match .keys3))
+    (λ c. simp (c .match .keys4))
+    (λ c. simp (c .match .keys5))
+    (λ c. simp (c .match .keys6))
+    (λ c. c .left-shift .ensures ∙ simp (c .before .match .keys7))
+    (λ c. c .right-shift .ensures ∙ simp (c .before .match .keys8))
     (λ c.
-    let f = c .before .before .before .before .before .args .c in
-    rw (c .imm-i .ensures)
-    (found-at op-answer immediateAs f (f .funct3) shifts immediates _ _ (c .before .before .before .before .immediate .ensures) (c .before .before .found .given .1)))
-    (λ c.
-    let f = c .before .before .before .before .args .c in
-    c .shift-word .ensures ∙ nothing-at op-answer immediateAs f (f .funct3) shifts immediates _ (c .before .before .before .immediate .ensures) (c .before .enum-told .given .1)))
+    let f = fieldsOf (c .before .args .w) in
+    past (on f) Refused _ (wordsOf immediateAs immediates ++ shifts) [] (c .match .rest)))

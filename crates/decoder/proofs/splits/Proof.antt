@@ -1,26 +1,26 @@
--- `decoder::splits` meets its contract: what the table has at funct3. Assumes nothing.
+-- `decoder::splits` meets its contract: each arm is a row, or rows that adjoin. Assumes nothing.
 use mathlib.Core.Path.{_∙_}
+use mathlib.Core.List.{[], _∷_}
+use native.Mathlib.Omega.{arith}
 use borrow.Author.Needs.{needs}
+use Rattle.isa.specs.Fields.{fieldsOf}
 use Rattle.isa.specs.Scalar.{conditions}
 use Rattle.isa.specs.Ventus.{vbranchAs, joins, splitsOf}
-use Rattle.decoder.proofs.Laws.{found-at, nothing-at, condition-answer}
+use Rattle.isa.specs.Kinds.{condOf, rowOf}
+use Rattle.isa.proofs.Tables.{range-in}
+use Rattle.word.specs.declared.Cond.the-variants as C
 use Rattle.decoder.proofs.splits.Statement.{statement}
 use Rattle.decoder.proofs.splits.Tie as tie
 
 pub splits-spec : {M : Type 1} → statement M
-unfolding splitsOf
+unfolding rowOf splitsOf condOf
 splits-spec =
     tie.close
     (tie.spec
     (λ c κs. search needs)
-    (λ c. search needs)
-    (λ c κs. search needs)
-    (λ c. search needs)
-    (λ c κs. search needs)
+    (λ c. c .join .ensures ∙ simp (c .before .match .keys1))
+    (λ c. simp (c .match .keys2))
     (λ c.
-    let f = c .before .before .before .before .before .args .c in
-    rw (c .imm-b .ensures)
-    (found-at condition-answer vbranchAs f (f .funct3) joins conditions _ _ (c .before .before .before .before .condition .ensures) (c .before .before .found .given .1)))
-    (λ c.
-    let f = c .before .before .before .before .args .c in
-    c .join-word .ensures ∙ nothing-at condition-answer vbranchAs f (f .funct3) joins conditions _ (c .before .before .before .condition .ensures) (c .before .enum-told .given .1)))
+    let f = fieldsOf (c .before .before .args .w) in
+    range-in vbranchAs f (f .funct3) joins conditions (2 ∷ 3 ∷ []) 0 8 (omega arith) (omega arith) (c .before .match .rest) C.Geu tt)
+    (λ c. absurd (omega arith)))

@@ -1,15 +1,27 @@
--- `decoder::stop` meets its contract: the fixed field has its value, or the word is refused. Assumes nothing.
+-- `decoder::stop` meets its contract: each arm is a row. Assumes nothing.
+use mathlib.Core.Path.{_∙_}
+use mathlib.Core.List.{[]}
 use borrow.Author.Needs.{needs}
-use borrow.Author.Tests.{ne-eqb}
-use Rattle.isa.specs.Ventus.{stopOf}
+use borrow.Author.Tests.{eq-eqb, ne-eqb}
+use Rattle.isa.specs.declared.Instr.the-variants.{Refused}
+use Rattle.isa.specs.Fields.{fieldsOf}
+use Rattle.isa.specs.Table.{on}
+use Rattle.isa.specs.Ventus.{stops, stopOf}
+use Rattle.isa.specs.Kinds.{rowOf}
+use Rattle.isa.specs.Laws.{past}
 use Rattle.decoder.proofs.stop.Statement.{statement}
 use Rattle.decoder.proofs.stop.Tie as tie
 
 pub stop-spec : {M : Type 1} → statement M
-unfolding stopOf
+unfolding rowOf stopOf
 stop-spec =
     tie.close
     (tie.spec
+    (λ c. simp (ne-eqb _ _ (c .if1 .taken)))
     (λ c κs. search needs)
-    (λ c. simp (c .before .match .keys1) (c .stop-word .ensures))
-    (λ c. simp (ne-eqb _ _ (c .match .rest .1))))
+    (λ c κs. search needs)
+    (λ c. c .end-prg .ensures ∙ simp (c .before .match .keys1, c .before .before .if1 .left))
+    (λ c. c .barrier .ensures ∙ simp (c .before .match .keys2, c .before .before .if1 .left))
+    (λ c.
+    let f = fieldsOf (c .before .before .args .w) in
+    rw (eq-eqb (f .funct3) 4 (c .before .if1 .left)) (past (on f) Refused _ stops [] (c .match .rest))))

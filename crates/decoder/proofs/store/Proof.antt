@@ -1,24 +1,22 @@
--- `decoder::store` meets its contract: what the table has at funct3. Assumes nothing.
-use borrow.Author.Needs.{needs}
+-- `decoder::store` meets its contract: each arm is a row, or rows that adjoin. Assumes nothing.
 use mathlib.Core.List.{[]}
+use native.Mathlib.Omega.{arith}
+use Rattle.isa.specs.Fields.{fieldsOf}
 use Rattle.isa.specs.Scalar.{stores, storeAs, storeOf}
-use Rattle.decoder.proofs.Laws.{found-at, nothing-at, store-answer}
+use Rattle.isa.specs.Kinds.{storeOpOf, rowOf}
+use Rattle.isa.proofs.Tables.{range-in, range-out}
+use Rattle.isa.specs.declared.StoreOp.the-variants as S
 use Rattle.decoder.proofs.store.Statement.{statement}
 use Rattle.decoder.proofs.store.Tie as tie
 
 pub store-spec : {M : Type 1} → statement M
-unfolding storeOf
+unfolding rowOf storeOf storeOpOf
 store-spec =
     tie.close
     (tie.spec
-    (λ c κs. search needs)
-    (λ c. search needs)
-    (λ c κs. search needs)
-    (λ c. search needs)
     (λ c.
-    let f = c .before .before .before .before .before .args .c in
-    rw (c .imm-s .ensures)
-    (found-at store-answer storeAs f (f .funct3) [] stores _ _ (c .before .before .before .before .store-op .ensures) (c .before .before .found .given .1)))
+    let f = fieldsOf (c .before .args .w) in
+    range-in storeAs f (f .funct3) [] stores [] 0 3 (omega arith) (omega arith) tt S.W tt)
     (λ c.
-    let f = c .before .before .before .args .c in
-    nothing-at store-answer storeAs f (f .funct3) [] stores _ (c .before .before .store-op .ensures) (c .enum-told .given .1)))
+    let f = fieldsOf (c .before .args .w) in
+    range-out storeAs f (f .funct3) [] stores [] 3 5 (omega arith) (omega arith) tt tt))

@@ -1,27 +1,25 @@
-use Prim.Native.Nat.{ℕ}
-use mathlib.Core.Path.{ap}
-use Rattle.hot.specs.Hot.{warpOf}
-use Rattle.definition.specs.Exec.{puts}
-use Rattle.exec.proofs.Arms.{via}
+use Prim.Native.Nat.{_*_, ℕ}
+use Rattle.definition.specs.Exec.{effectOf, goes}
+use Rattle.definition.specs.Refuse.{refusalsOf}
+use Rattle.exec.proofs.Laws.{given}
+use Rattle.exec.specs.Steps.{puts}
+use Rattle.isa.specs.Fields.{fieldsOf, immU, x as xOf}
+use Rattle.isa.specs.declared.Instr.the-variants as I
+use Rattle.running.specs.Words.{pcIn, warpOf}
+use Rattle.word.specs.Word.{addOf}
 use borrow.Author.Needs.{needs}
+use mathlib.Core.Path.{_∙_, ap, refl, sym}
 use Rattle.exec.proofs.auipc.Statement.{statement}
 use Rattle.exec.proofs.auipc.Tie as tie
 
-element-copy-out-add : tie.Need-element-copy-out-add
-element-copy-out-add c = search needs
-
-mul-add : tie.Need-mul-add
-mul-add c = search needs
-
-add-requires : tie.Need-add-requires
-add-requires c κs = search needs
-
-puts-requires : tie.Need-puts-requires
-puts-requires c κs = search needs
-
-returns : tie.Need-returns
-unfolding warpOf
-returns c = let s = c .before .before .before .before .before in λ g. via _ _ _ g _ _ _ _ ((c .puts .ensures g) .runs) (λ t. ap (λ (y : ℕ). puts (s .args .r) y (warpOf g (s .args .h .now) (s .args .x .now) t)) (c .before .before .before .add .ensures))
-
 pub auipc-spec : {M : Type 1} → statement M
-auipc-spec = tie.close (tie.spec element-copy-out-add mul-add add-requires puts-requires returns)
+unfolding effectOf refusalsOf warpOf
+auipc-spec =
+    tie.close
+    (tie.spec
+    (λ c. search needs)
+    (λ c κs. search needs)
+    (λ c. search needs)
+    (λ c κs. search needs)
+    (λ c κs. search needs)
+    (λ c. let a = (c .before .before .before .before .before .before .args) in let f = fieldsOf (a .w) in λ g s v d n. given (I.Auipc (xOf (f .rd)) (immU f)) (xOf (f .rd)) _ _ g (a .h .now) (a .x .now) s v d _ _ ((c .gives) .ensures .0) ((c .gives) .ensures .1 g s n) refl (ap (λ (z : ℕ). goes (puts (xOf (f .rd)) z (warpOf g (a .h .now) (a .x .now) s))) (sym ((c .before .before .before .add) .ensures ∙ ap (λ (z : ℕ). addOf (pcIn (a .h .now)) (z * 4096)) ((c .before .before .before .before .imm-u) .ensures .0))))))

@@ -1,35 +1,29 @@
-use mathlib.Core.Bool.{true, false}
-use Rattle.warp.specs.Warp.{withStop, next}
-use Rattle.exec.proofs.Arms.{stop-refused, barrier-runs}
+use Rattle.definition.specs.Exec.{effectOf}
+use Rattle.definition.specs.Refuse.{refusalsOf}
+use Rattle.exec.proofs.Laws.{moved, refused, row-fails, row-passes}
+use Rattle.exec.specs.Steps.{lists}
+use Rattle.isa.specs.Fields.{fieldsOf}
+use Rattle.isa.specs.declared.Instr.the-variants as I
+use Rattle.running.proofs.Goes.{goes-then, next-goes, stop-goes}
+use Rattle.running.specs.Words.{endedAt, waitingAt, warpOf}
+use Rattle.warp.specs.Warp.{next, withStop}
 use borrow.Author.Needs.{needs}
+use borrow.Author.Tests.{eq-eqb, ne-eqb}
+use lib.ListN.{set}
+use mathlib.Core.Bool.{false, true}
+use mathlib.Core.Path.{refl}
+use native.Mathlib.Omega.{arith}
 use Rattle.exec.proofs.barrier.Statement.{statement}
 use Rattle.exec.proofs.barrier.Tie as tie
 
-element-copy-out-if1 : tie.Need-element-copy-out-if1
-element-copy-out-if1 c = search needs
-
-returns : tie.Need-returns
-returns c = λ g x. stop-refused g _ x (c .before .before .pre) (λ w. next (withStop false true w)) (c .if1 .taken)
-
-element-write-h : tie.Need-element-write-h
-element-write-h c = search needs
-
-element-write-h-2 : tie.Need-element-write-h-2
-element-write-h-2 c = search needs
-
-next-requires : tie.Need-next-requires
-next-requires c κs = search needs
-
-returns-2 : tie.Need-returns-2
-returns-2 c = λ g x. barrier-runs g _ x (c .before .before .before .before .pre) _ (c .before .before .if1 .left) (c .next .ensures)
-
 pub barrier-spec : {M : Type 1} → statement M
+unfolding warpOf refusalsOf effectOf
 barrier-spec =
     tie.close
     (tie.spec
-    element-copy-out-if1
-    returns
-    element-write-h
-    element-write-h-2
-    next-requires
-    returns-2)
+    (λ c. search needs)
+    (λ c. let a = (c .before .before .args) in let f = fieldsOf (a .w) in λ g x s v d n. refused (I.Barrier (f .rs1)) 11 (lists g (a .h .now) x s v d) (λ z. omega arith) (c .before .before .pre) n (row-fails 11 _ (ne-eqb _ _ ((c .if1) .taken))))
+    (λ c. search needs)
+    (λ c. search needs)
+    (λ c κs. search needs)
+    (λ c. let a = (c .before .before .before .before .args) in let f = fieldsOf (a .w) in λ g x s v d n. let h₁ = set (set (a .h .now) endedAt 0) waitingAt 1 in let st = stop-goes g (a .h .now) x s (c .before .before .before .before .pre) n h₁ x false true refl in moved (I.Barrier (f .rs1)) (λ u. next (withStop false true u)) g (a .h .now) x s v d _ x s (goes-then (withStop false true) next g (a .h .now) x s h₁ x s _ x s st (next-goes g h₁ x s (st .long) n _ x next ((c .next) .ensures) refl)) (row-passes 11 _ (eq-eqb _ _ ((c .before .before .if1) .left))) refl))

@@ -1,50 +1,38 @@
 use Prim.Native.Nat.{ℕ}
-use mathlib.Core.Path.{ap, ap₂, sym, _∙_}
-use mathlib.Core.Bool.{Bool}
-use Rattle.word.specs.Word.{holdsOf}
-use Rattle.warp.specs.Warp.{jumpOf}
-use Rattle.hot.specs.Hot.{warpOf}
-use Rattle.definition.specs.Exec.{branches, pcOffset}
-use Rattle.exec.proofs.Arms.{via, next-runs}
+use Rattle.definition.specs.Exec.{effectOf, goes}
+use Rattle.definition.specs.Refuse.{astray, refusalsOf}
+use Rattle.exec.proofs.Laws.{astray-not, astray-so, both-so, first-not, moved, refused, row-holds, row-silent, second-not}
+use Rattle.exec.specs.Steps.{lists}
+use Rattle.isa.specs.Fields.{fieldsOf, immB, x as xOf}
+use Rattle.isa.specs.Kinds.{condOf}
+use Rattle.isa.specs.declared.Instr.the-variants as I
+use Rattle.running.proofs.Goes.{go-goes, next-goes}
+use Rattle.running.specs.Words.{pcIn, warpOf}
+use Rattle.warp.specs.Warp.{next, withPc}
+use Rattle.word.specs.Word.{addOf, extendOf, holdsOf}
 use borrow.Author.Needs.{needs}
+use borrow.Author.Tests.{not-false, not-true}
+use lib.ListN.{getD}
+use mathlib.Core.Bool.{cond, false, true}
+use mathlib.Core.Path.{_∙_, _≡_, ap, refl, sym}
+use native.Mathlib.Omega.{arith}
 use Rattle.exec.proofs.branch.Statement.{statement}
 use Rattle.exec.proofs.branch.Tie as tie
 
-get-x-requires : tie.Need-get-x-requires
-get-x-requires c κs = search needs
-
-get-x-requires-2 : tie.Need-get-x-requires-2
-get-x-requires-2 c κs = search needs
-
-holds-requires : tie.Need-holds-requires
-holds-requires c κs = search needs
-
-offset-requires : tie.Need-offset-requires
-offset-requires c κs = search needs
-
-jump-requires : tie.Need-jump-requires
-jump-requires c κs = search needs
-
-returns : tie.Need-returns
-unfolding warpOf
-returns c = let s = c .before .before .before .before .before .before .before .before in λ g. via _ _ _ g _ _ _ _ (λ t n. c .jump .ensures g (s .args .x .now) t n) (λ t. ap (λ (p : ℕ). jumpOf p (warpOf g (s .args .h .now) (s .args .x .now) t)) (c .before .before .offset .ensures) ∙ ap (λ (b : Bool). branches b (pcOffset 13 (s .args .n) (warpOf g (s .args .h .now) (s .args .x .now) t)) (warpOf g (s .args .h .now) (s .args .x .now) t)) (sym (c .before .before .before .before .if1 .taken) ∙ c .before .before .before .before .before .holds .ensures ∙ ap₂ (holdsOf (s .args .t)) (c .before .before .before .before .before .before .before .get-x .ensures) (c .before .before .before .before .before .before .get-x2 .ensures)))
-
-next-requires : tie.Need-next-requires
-next-requires c κs = search needs
-
-returns-2 : tie.Need-returns-2
-unfolding warpOf
-returns-2 c = let s = c .before .before .before .before .before .before in λ g. next-runs g _ _ (s .pre .0) _ _ (c .next .ensures) (λ t. ap (λ (b : Bool). branches b (pcOffset 13 (s .args .n) (warpOf g (s .args .h .now) (s .args .x .now) t)) (warpOf g (s .args .h .now) (s .args .x .now) t)) (sym (c .before .before .if1 .left) ∙ c .before .before .before .holds .ensures ∙ ap₂ (holdsOf (s .args .t)) (c .before .before .before .before .before .get-x .ensures) (c .before .before .before .before .get-x2 .ensures)))
-
 pub branch-spec : {M : Type 1} → statement M
+unfolding effectOf refusalsOf warpOf
 branch-spec =
     tie.close
     (tie.spec
-    get-x-requires
-    get-x-requires-2
-    holds-requires
-    offset-requires
-    jump-requires
-    returns
-    next-requires
-    returns-2)
+    (λ c κs. search needs)
+    (λ c κs. search needs)
+    (λ c κs. search needs)
+    (λ c κs. search needs)
+    (λ c κs. search needs)
+    (λ c. let a = (c .before .before .before .before .before .before .before .args) in let f = fieldsOf (a .w) in let q : (c .before .before .before .holds) .result ≡ (holdsOf (condOf f) (getD (a .x .now) (f .rs1) 0) (getD (a .x .now) (f .rs2) 0)) = ((c .before .before .before .holds) .ensures ∙ rw ((c .before .before .before .before .before .before .cond) .ensures, (c .before .before .before .before .before .first) .ensures, (c .before .before .before .before .second) .ensures)) in let t : (holdsOf (condOf f) (getD (a .x .now) (f .rs1) 0) (getD (a .x .now) (f .rs2) 0)) ≡ false = sym q ∙ not-true _ ((c .before .before .if1) .taken) in λ g s v d n. moved (I.Branch (condOf f) (xOf (f .rs1)) (xOf (f .rs2)) (immB f)) next g (a .h .now) (a .x .now) s v d _ (a .x .now) s (next-goes g (a .h .now) (a .x .now) s (c .before .before .before .before .before .before .before .pre) n _ (a .x .now) next ((c .next) .ensures) refl) (row-silent 8 _ (first-not (holdsOf (condOf f) (getD (a .x .now) (f .rs1) 0) (getD (a .x .now) (f .rs2) 0)) (astray (addOf (pcIn (a .h .now)) (extendOf 13 (immB f)))) t)) (rw t))
+    (λ c κs. search needs)
+    (λ c. search needs)
+    (λ c κs. search needs)
+    (λ c. let a = (c .before .before .before .before .before .before .before .before .before .args) in let f = fieldsOf (a .w) in let q : (c .before .before .before .before .before .holds) .result ≡ (holdsOf (condOf f) (getD (a .x .now) (f .rs1) 0) (getD (a .x .now) (f .rs2) 0)) = ((c .before .before .before .before .before .holds) .ensures ∙ rw ((c .before .before .before .before .before .before .before .before .cond) .ensures, (c .before .before .before .before .before .before .before .first) .ensures, (c .before .before .before .before .before .before .second) .ensures)) in let t : (holdsOf (condOf f) (getD (a .x .now) (f .rs1) 0) (getD (a .x .now) (f .rs2) 0)) ≡ true = sym q ∙ not-false _ ((c .before .before .before .before .if1) .left) in λ g s v d n. refused (I.Branch (condOf f) (xOf (f .rs1)) (xOf (f .rs2)) (immB f)) 8 (lists g (a .h .now) (a .x .now) s v d) (λ z. omega arith) (c .before .before .before .before .before .before .before .before .before .pre) n (row-holds 8 _ (both-so (holdsOf (condOf f) (getD (a .x .now) (f .rs1) 0) (getD (a .x .now) (f .rs2) 0)) (astray (addOf (pcIn (a .h .now)) (extendOf 13 (immB f)))) t (astray-so (addOf (pcIn (a .h .now)) (extendOf 13 (immB f))) _ ((c .before .offset) .ensures ∙ ap (λ (z : ℕ). addOf (pcIn (a .h .now)) (extendOf 13 z)) ((c .before .before .imm-b) .ensures .0)) ((c .if2) .taken)))))
+    (λ c κs. search needs)
+    (λ c. let a = (c .before .before .before .before .before .before .before .before .before .before .before .args) in let f = fieldsOf (a .w) in let q : (c .before .before .before .before .before .before .before .holds) .result ≡ (holdsOf (condOf f) (getD (a .x .now) (f .rs1) 0) (getD (a .x .now) (f .rs2) 0)) = ((c .before .before .before .before .before .before .before .holds) .ensures ∙ rw ((c .before .before .before .before .before .before .before .before .before .before .cond) .ensures, (c .before .before .before .before .before .before .before .before .before .first) .ensures, (c .before .before .before .before .before .before .before .before .second) .ensures)) in let t : (holdsOf (condOf f) (getD (a .x .now) (f .rs1) 0) (getD (a .x .now) (f .rs2) 0)) ≡ true = sym q ∙ not-false _ ((c .before .before .before .before .before .before .if1) .left) in λ g s v d n. moved (I.Branch (condOf f) (xOf (f .rs1)) (xOf (f .rs2)) (immB f)) (withPc ((c .before .before .before .offset) .result)) g (a .h .now) (a .x .now) s v d _ (a .x .now) s (go-goes g (a .h .now) (a .x .now) s (c .before .before .before .before .before .before .before .before .before .before .before .pre) n _ (a .x .now) (withPc ((c .before .before .before .offset) .result)) _ ((c .go-to) .ensures) refl) (row-silent 8 _ (second-not (holdsOf (condOf f) (getD (a .x .now) (f .rs1) 0) (getD (a .x .now) (f .rs2) 0)) (astray (addOf (pcIn (a .h .now)) (extendOf 13 (immB f)))) (astray-not (addOf (pcIn (a .h .now)) (extendOf 13 (immB f))) _ ((c .before .before .before .offset) .ensures ∙ ap (λ (z : ℕ). addOf (pcIn (a .h .now)) (extendOf 13 z)) ((c .before .before .before .before .imm-b) .ensures .0)) ((c .before .before .if2) .left)))) (rw t (ap (λ (p : ℕ). goes (withPc p (warpOf g (a .h .now) (a .x .now) s))) (sym ((c .before .before .before .offset) .ensures ∙ ap (λ (z : ℕ). addOf (pcIn (a .h .now)) (extendOf 13 z)) ((c .before .before .before .before .imm-b) .ensures .0)))))))

@@ -1,21 +1,25 @@
-use Prim.Native.Nat.{ℕ}
-use mathlib.Core.Path.{ap}
-use Rattle.warp.specs.Csr.{csrOf}
-use Rattle.hot.specs.Hot.{warpOf}
-use Rattle.exec.proofs.Arms.{via}
+use Rattle.exec.proofs.Laws.{csr-range, csr-refused, csr-word}
+use Rattle.exec.specs.Steps.{lists}
+use Rattle.isa.specs.Fields.{fieldsOf, immI, x as xOf}
+use Rattle.isa.specs.Kinds.{csrOpOf, csrWordOf}
 use borrow.Author.Needs.{needs}
+use borrow.Author.Tests.{not-false, not-true}
+use lib.Dec.{ltb}
+use mathlib.Core.Path.{_∙_, sym}
 use Rattle.exec.proofs.csr.Statement.{statement}
 use Rattle.exec.proofs.csr.Tie as tie
 
-get-x-requires : tie.Need-get-x-requires
-get-x-requires c κs = search needs
-
-csr-requires : tie.Need-csr-requires
-csr-requires c κs = search needs
-
-returns : tie.Need-returns
-unfolding warpOf
-returns c = let s = c .before .before .before .before .before in via _ _ _ _ _ _ _ _ (c .csr .ensures) (λ t. ap (λ (y : ℕ). csrOf (s .args .o) (s .args .n) (s .args .r) (s .args .a .0) y (warpOf (s .args .g .now) (s .args .h .now) (s .args .x .now) t)) (c .before .before .before .get-x .ensures))
-
 pub csr-spec : {M : Type 1} → statement M
-csr-spec = tie.close (tie.spec get-x-requires csr-requires returns)
+unfolding csrWordOf
+csr-spec =
+    tie.close
+    (tie.spec
+    (λ c κs. search needs)
+    (λ c. let a = (c .before .before .args) in let f = fieldsOf (a .w) in λ s v d n. csr-refused (ltb (f .funct3) 4) (csrOpOf f) (xOf (f .rd)) (f .rs1) (immI f) (lists (a .g .now) (a .h .now) (a .x .now) s v d) ((c .before .before .pre) .0) n (sym (not-true _ ((c .if1) .taken)) ∙ (c .before .csr-ok) .ensures))
+    (λ c κs. search needs)
+    (λ c κs. search needs)
+    (λ c κs. search needs)
+    (λ c κs. search needs)
+    (λ c κs. search needs)
+    (λ c κs. let a = (c .before .before .before .before .before .before .before .before .before .before .args) in let f = fieldsOf (a .w) in let r = csr-range (csrOpOf f) (immI f) (f .rs1) (sym (not-false _ ((c .before .before .before .before .before .before .before .before .if1) .left)) ∙ (c .before .before .before .before .before .before .before .before .before .csr-ok) .ensures) in ((c .before .before .before .before .before .before .before .before .before .before .pre) .0, (c .before .before .before .before .before .before .before .before .before .before .pre) .1, (c .before .xd) .ensures .1, rw ((c .before .before .imm-i) .ensures .0) (r .0), rw ((c .before .before .imm-i) .ensures .0) (r .1)))
+    (λ c. let a = (c .before .before .before .before .before .before .before .before .before .before .before .args) in let f = fieldsOf (a .w) in λ s v d n. csr-word (ltb (f .funct3) 4) (csrOpOf f) (xOf (f .rd)) (f .rs1) (immI f) _ (a .g .now) (a .h .now) (a .x .now) s v d _ _ (sym (not-false _ ((c .before .before .before .before .before .before .before .before .before .if1) .left)) ∙ (c .before .before .before .before .before .before .before .before .before .before .csr-ok) .ensures) ((c .before .before .before .before .before .before .before .csr-operand) .ensures) (rw (← (c .before .before .before .before .csr-op) .ensures, ← (c .before .before .before .imm-i) .ensures .0, ← (c .before .before .xd) .ensures .0, ← (c .before .rs1) .ensures .0) ((c .csr) .ensures s n))))

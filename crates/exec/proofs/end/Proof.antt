@@ -1,26 +1,26 @@
-use mathlib.Core.Path.{refl}
-use mathlib.Core.Bool.{true, false}
+use Rattle.definition.specs.Exec.{effectOf}
+use Rattle.definition.specs.Refuse.{refusalsOf}
+use Rattle.exec.proofs.Laws.{moved, refused, row-fails, row-passes}
+use Rattle.exec.specs.Steps.{lists}
+use Rattle.isa.specs.declared.Instr.the-variants as I
+use Rattle.running.proofs.Goes.{stop-goes}
+use Rattle.running.specs.Words.{warpOf}
 use Rattle.warp.specs.Warp.{withStop}
-use Rattle.exec.proofs.Arms.{stop-refused, end-runs}
 use borrow.Author.Needs.{needs}
+use borrow.Author.Tests.{eq-eqb, ne-eqb}
+use mathlib.Core.Bool.{false, true}
+use mathlib.Core.Path.{refl}
+use native.Mathlib.Omega.{arith}
 use Rattle.exec.proofs.end.Statement.{statement}
 use Rattle.exec.proofs.end.Tie as tie
 
-element-copy-out-if1 : tie.Need-element-copy-out-if1
-element-copy-out-if1 c = search needs
-
-returns : tie.Need-returns
-returns c = λ g x. stop-refused g _ x (c .before .before .pre) (withStop true false) (c .if1 .taken)
-
-element-write-h : tie.Need-element-write-h
-element-write-h c = search needs
-
-element-write-h-2 : tie.Need-element-write-h-2
-element-write-h-2 c = search needs
-
-returns-2 : tie.Need-returns-2
-returns-2 c = λ g x. end-runs g _ x (c .before .before .pre) _ (c .if1 .left) refl
-
 pub end-spec : {M : Type 1} → statement M
+unfolding warpOf refusalsOf effectOf
 end-spec =
-    tie.close (tie.spec element-copy-out-if1 returns element-write-h element-write-h-2 returns-2)
+    tie.close
+    (tie.spec
+    (λ c. search needs)
+    (λ c. let a = (c .before .before .args) in λ g x s v d n. refused I.EndPrg 11 (lists g (a .h .now) x s v d) (λ z. omega arith) (c .before .before .pre) n (row-fails 11 _ (ne-eqb _ _ ((c .if1) .taken))))
+    (λ c. search needs)
+    (λ c. search needs)
+    (λ c. let a = (c .before .before .args) in λ g x s v d n. moved I.EndPrg (withStop true false) g (a .h .now) x s v d _ x s (stop-goes g (a .h .now) x s (c .before .before .pre) n _ x true false refl) (row-passes 11 _ (eq-eqb _ _ ((c .if1) .left))) refl))

@@ -1,21 +1,27 @@
 use Prim.Native.Nat.{ℕ}
-use mathlib.Core.Path.{ap}
-use Rattle.warp.specs.Warp.{linkOf}
-use Rattle.hot.specs.Hot.{warpOf}
-use Rattle.exec.proofs.Arms.{via}
+use Rattle.definition.specs.Exec.{effectOf, goes}
+use Rattle.definition.specs.Refuse.{astray, refusalsOf}
+use Rattle.exec.proofs.Laws.{astray-not, astray-so, moved, refused, row-holds, row-silent}
+use Rattle.exec.specs.Steps.{lists}
+use Rattle.isa.specs.Fields.{fieldsOf, immJ, x as xOf}
+use Rattle.isa.specs.declared.Instr.the-variants as I
+use Rattle.running.specs.Words.{pcIn, warpOf}
+use Rattle.warp.specs.Warp.{linked}
+use Rattle.word.specs.Word.{addOf, extendOf}
 use borrow.Author.Needs.{needs}
+use mathlib.Core.Path.{_∙_, ap, sym}
+use native.Mathlib.Omega.{arith}
 use Rattle.exec.proofs.jal.Statement.{statement}
 use Rattle.exec.proofs.jal.Tie as tie
 
-offset-requires : tie.Need-offset-requires
-offset-requires c κs = search needs
-
-link-requires : tie.Need-link-requires
-link-requires c κs = search needs
-
-returns : tie.Need-returns
-unfolding warpOf
-returns c = let s = c .before .before .before .before .before in λ g. via _ _ _ g _ _ _ _ (c .link .ensures g) (λ t. ap (λ (p : ℕ). linkOf (s .args .r) p (warpOf g (s .args .h .now) (s .args .x .now) t)) (c .before .before .before .offset .ensures))
-
 pub jal-spec : {M : Type 1} → statement M
-jal-spec = tie.close (tie.spec offset-requires link-requires returns)
+unfolding effectOf refusalsOf warpOf
+jal-spec =
+    tie.close
+    (tie.spec
+    (λ c κs. search needs)
+    (λ c κs. search needs)
+    (λ c. let a = (c .before .before .before .before .args) in let f = fieldsOf (a .w) in λ g s v d n. refused (I.Jal (xOf (f .rd)) (immJ f)) 8 (lists g (a .h .now) (a .x .now) s v d) (λ z. omega arith) (c .before .before .before .before .pre) n (row-holds 8 (astray (addOf (pcIn (a .h .now)) (extendOf 21 (immJ f)))) (astray-so (addOf (pcIn (a .h .now)) (extendOf 21 (immJ f))) _ ((c .before .offset) .ensures ∙ ap (λ (z : ℕ). addOf (pcIn (a .h .now)) (extendOf 21 z)) ((c .before .before .imm-j) .ensures .0)) ((c .if1) .taken))))
+    (λ c κs. search needs)
+    (λ c κs. search needs)
+    (λ c. let a = (c .before .before .before .before .before .before .before .before .args) in let f = fieldsOf (a .w) in λ g s v d n. moved (I.Jal (xOf (f .rd)) (immJ f)) (linked ((c .before .xd) .result) ((c .before .before .before .before .before .offset) .result)) g (a .h .now) (a .x .now) s v d _ _ s ((c .link) .ensures g s n) (row-silent 8 (astray (addOf (pcIn (a .h .now)) (extendOf 21 (immJ f)))) (astray-not (addOf (pcIn (a .h .now)) (extendOf 21 (immJ f))) _ ((c .before .before .before .before .before .offset) .ensures ∙ ap (λ (z : ℕ). addOf (pcIn (a .h .now)) (extendOf 21 z)) ((c .before .before .before .before .before .before .imm-j) .ensures .0)) ((c .before .before .before .before .if1) .left))) (rw ((c .before .xd) .ensures .0) (ap (λ (p : ℕ). goes (linked (xOf (f .rd)) p (warpOf g (a .h .now) (a .x .now) s))) (sym ((c .before .before .before .before .before .offset) .ensures ∙ ap (λ (z : ℕ). addOf (pcIn (a .h .now)) (extendOf 21 z)) ((c .before .before .before .before .before .before .imm-j) .ensures .0)))))))

@@ -1,30 +1,31 @@
 use Prim.Native.Nat.{ℕ}
-use mathlib.Core.Path.{ap, _∙_}
-use Rattle.warp.specs.Warp.{linkOf}
+use Rattle.definition.specs.Exec.{effectOf, goes}
+use Rattle.definition.specs.Refuse.{astray, refusalsOf}
+use Rattle.definition.specs.State.{evenOf}
+use Rattle.exec.proofs.Laws.{astray-not, astray-so, moved, refused, row-holds, row-silent}
+use Rattle.exec.specs.Steps.{lists}
+use Rattle.isa.specs.Fields.{fieldsOf, immI, x as xOf}
+use Rattle.isa.specs.declared.Instr.the-variants as I
 use Rattle.memory.specs.Address.{plainOf}
-use Rattle.hot.specs.Hot.{warpOf}
-use Rattle.definition.specs.Exec.{evenOf}
-use Rattle.exec.proofs.Arms.{via}
+use Rattle.running.specs.Words.{warpOf}
+use Rattle.warp.specs.Warp.{linked}
 use borrow.Author.Needs.{needs}
+use lib.ListN.{getD}
+use mathlib.Core.Path.{_∙_, ap, ap₂, sym}
+use native.Mathlib.Omega.{arith}
 use Rattle.exec.proofs.jalr.Statement.{statement}
 use Rattle.exec.proofs.jalr.Tie as tie
 
-get-x-requires : tie.Need-get-x-requires
-get-x-requires c κs = search needs
-
-plain-address-requires : tie.Need-plain-address-requires
-plain-address-requires c κs = search needs
-
-sub-link : tie.Need-sub-link
-sub-link c = search needs
-
-link-requires : tie.Need-link-requires
-link-requires c κs = search needs
-
-returns : tie.Need-returns
-unfolding warpOf
-returns c = let s = c .before .before .before .before .before .before in λ g. via _ _ _ g _ _ _ _ (c .link .ensures g) (λ t. ap (λ (p : ℕ). linkOf (s .args .r) (evenOf p) (warpOf g (s .args .h .now) (s .args .x .now) t)) (c .before .before .before .plain-address .ensures ∙ ap (λ (y : ℕ). plainOf y (s .args .n)) (c .before .before .before .before .get-x .ensures)))
-
 pub jalr-spec : {M : Type 1} → statement M
+unfolding effectOf refusalsOf warpOf
 jalr-spec =
-    tie.close (tie.spec get-x-requires plain-address-requires sub-link link-requires returns)
+    tie.close
+    (tie.spec
+    (λ c κs. search needs)
+    (λ c κs. search needs)
+    (λ c κs. search needs)
+    (λ c. search needs)
+    (λ c. let a = (c .before .before .before .before .before .args) in let f = fieldsOf (a .w) in λ g s v d n. refused (I.Jalr (xOf (f .rd)) (xOf (f .rs1)) (immI f)) 8 (lists g (a .h .now) (a .x .now) s v d) (λ z. omega arith) (c .before .before .before .before .before .pre) n (row-holds 8 (astray (evenOf (plainOf (getD (a .x .now) (f .rs1) 0) (immI f)))) (astray-so (evenOf (plainOf (getD (a .x .now) (f .rs1) 0) (immI f))) _ (ap evenOf ((c .before .plain-address) .ensures ∙ ap₂ plainOf ((c .before .before .before .first) .ensures) ((c .before .before .imm-i) .ensures .0))) ((c .if1) .taken))))
+    (λ c κs. search needs)
+    (λ c κs. search needs)
+    (λ c. let a = (c .before .before .before .before .before .before .before .before .before .args) in let f = fieldsOf (a .w) in λ g s v d n. moved (I.Jalr (xOf (f .rd)) (xOf (f .rs1)) (immI f)) (linked ((c .before .xd) .result) (evenOf ((c .before .before .before .before .before .plain-address) .result))) g (a .h .now) (a .x .now) s v d _ _ s ((c .link) .ensures g s n) (row-silent 8 (astray (evenOf (plainOf (getD (a .x .now) (f .rs1) 0) (immI f)))) (astray-not (evenOf (plainOf (getD (a .x .now) (f .rs1) 0) (immI f))) _ (ap evenOf ((c .before .before .before .before .before .plain-address) .ensures ∙ ap₂ plainOf ((c .before .before .before .before .before .before .before .first) .ensures) ((c .before .before .before .before .before .before .imm-i) .ensures .0))) ((c .before .before .before .before .if1) .left))) (rw ((c .before .xd) .ensures .0) (ap (λ (p : ℕ). goes (linked (xOf (f .rd)) p (warpOf g (a .h .now) (a .x .now) s))) (sym (ap evenOf ((c .before .before .before .before .before .plain-address) .ensures ∙ ap₂ plainOf ((c .before .before .before .before .before .before .before .first) .ensures) ((c .before .before .before .before .before .before .imm-i) .ensures .0))))))))

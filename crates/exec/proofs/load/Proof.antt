@@ -1,51 +1,34 @@
 use Prim.Native.Nat.{ℕ}
-use mathlib.Core.Path.{ap, sym, _∙_}
+use Rattle.definition.specs.Exec.{effectOf, goes}
+use Rattle.definition.specs.Refuse.{refusalsOf}
+use Rattle.exec.proofs.Laws.{given, load-inside, load-outside, refused, row-fails, row-passes}
+use Rattle.exec.specs.Steps.{lists, puts}
+use Rattle.isa.specs.Fields.{fieldsOf, immI, x as xOf}
+use Rattle.isa.specs.Kinds.{loadOpOf}
+use Rattle.isa.specs.declared.Instr.the-variants as I
 use Rattle.memory.specs.Address.{plainOf}
-use Rattle.hot.specs.Hot.{warpOf}
-use Rattle.exec.proofs.Arms.{via, refused, load-found, load-none}
+use Rattle.memory.specs.Memory.{memory}
+use Rattle.running.specs.Words.{fixedIn, warpOf}
 use borrow.Author.Needs.{needs}
+use lib.ListN.{getD}
+use mathlib.Core.Path.{_∙_, ap, ap₂, sym}
+use native.Mathlib.Omega.{arith}
 use Rattle.exec.proofs.load.Statement.{statement}
 use Rattle.exec.proofs.load.Tie as tie
 
-get-x-requires : tie.Need-get-x-requires
-get-x-requires c κs = search needs
-
-plain-address-requires : tie.Need-plain-address-requires
-plain-address-requires c κs = search needs
-
-element-copy-out-scalar-load : tie.Need-element-copy-out-scalar-load
-element-copy-out-scalar-load c = search needs
-
-scalar-load-requires : tie.Need-scalar-load-requires
-scalar-load-requires c κs = search needs
-
-enum-known-found : tie.Need-enum-known-found
-enum-known-found c = search needs
-
-puts-requires : tie.Need-puts-requires
-puts-requires c κs = search needs
-
-enum-told : tie.Need-enum-told
-enum-told c = search needs
-
-returns : tie.Need-returns
-unfolding warpOf
-returns c = let s = c .before .before .before .before .before .before .before .before .before .before .before .before in via _ _ _ _ _ _ _ _ ((c .puts .ensures _) .runs) (λ t. load-found (warpOf (s .args .g .now) (s .args .h .now) (s .args .x .now) t) (s .args .d .now) _ _ (c .before .before .before .before .before .before .before .before .plain-address .ensures ∙ ap (λ (y : ℕ). plainOf y (s .args .n)) (c .before .before .before .before .before .before .before .before .before .get-x .ensures)) (s .args .k) (s .args .r) _ (sym (c .before .before .before .before .found .given .1) ∙ c .before .before .before .before .before .before .scalar-load .ensures))
-
-returns-2 : tie.Need-returns-2
-unfolding warpOf
-returns-2 c = let s = c .before .before .before .before .before .before .before .before in refused _ _ _ (s .pre .0) _ 9 (λ t. load-none (warpOf (s .args .g .now) (s .args .h .now) (s .args .x .now) t) (s .args .d .now) _ _ (c .before .before .before .before .plain-address .ensures ∙ ap (λ (y : ℕ). plainOf y (s .args .n)) (c .before .before .before .before .before .get-x .ensures)) (s .args .k) (s .args .r) (sym (c .enum-told .given .1) ∙ c .before .before .scalar-load .ensures))
-
 pub load-spec : {M : Type 1} → statement M
+unfolding effectOf refusalsOf warpOf
 load-spec =
     tie.close
     (tie.spec
-    get-x-requires
-    plain-address-requires
-    element-copy-out-scalar-load
-    scalar-load-requires
-    enum-known-found
-    puts-requires
-    enum-told
-    returns
-    returns-2)
+    (λ c κs. search needs)
+    (λ c κs. search needs)
+    (λ c κs. search needs)
+    (λ c. search needs)
+    (λ c κs. search needs)
+    (λ c κs. search needs)
+    (λ c. search needs)
+    (λ c κs. search needs)
+    (λ c. search needs)
+    (λ c. let a = (c .before .before .before .before .before .before .before .before .before .before .before .before .before .before .args) in let f = fieldsOf (a .w) in let q = load-inside (loadOpOf f) (memory (fixedIn (a .g .now) .database) (a .d .now)) _ (plainOf (getD (a .x .now) (f .rs1) 0) (immI f)) ((c .before .before .before .before .before .before .before .before .before .plain-address) .ensures ∙ ap₂ plainOf ((c .before .before .before .before .before .before .before .before .before .before .before .first) .ensures) ((c .before .before .before .before .before .before .before .before .before .before .imm-i) .ensures .0)) _ (rw (← (c .before .before .before .before .before .before .before .load-op) .ensures) (sym ((c .before .before .before .before .found) .given .1) ∙ (c .before .before .before .before .before .before .scalar-load) .ensures)) in λ s v n. given (I.Load (loadOpOf f) (xOf (f .rd)) (xOf (f .rs1)) (immI f)) (xOf (f .rd)) _ _ (a .g .now) (a .h .now) (a .x .now) s v (a .d .now) _ _ ((c .gives) .ensures .0) ((c .gives) .ensures .1 (a .g .now) s n) (row-passes 9 _ (q .0)) (ap (λ (z : ℕ). goes (puts (xOf (f .rd)) z (warpOf (a .g .now) (a .h .now) (a .x .now) s))) (q .1)))
+    (λ c. let a = (c .before .before .before .before .before .before .before .before .before .before .args) in let f = fieldsOf (a .w) in let q = load-outside (loadOpOf f) (memory (fixedIn (a .g .now) .database) (a .d .now)) _ (plainOf (getD (a .x .now) (f .rs1) 0) (immI f)) ((c .before .before .before .before .before .plain-address) .ensures ∙ ap₂ plainOf ((c .before .before .before .before .before .before .before .first) .ensures) ((c .before .before .before .before .before .before .imm-i) .ensures .0)) (rw (← (c .before .before .before .load-op) .ensures) (sym ((c .enum-told) .given .1) ∙ (c .before .before .scalar-load) .ensures)) in λ s v n. refused (I.Load (loadOpOf f) (xOf (f .rd)) (xOf (f .rs1)) (immI f)) 9 (lists (a .g .now) (a .h .now) (a .x .now) s v (a .d .now)) (λ z. omega arith) ((c .before .before .before .before .before .before .before .before .before .before .pre) .0) n (row-fails 9 _ q)))

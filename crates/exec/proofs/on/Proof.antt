@@ -1,16 +1,19 @@
-use mathlib.Core.Path.{refl}
+use Rattle.definition.specs.Exec.{effectOf}
+use Rattle.definition.specs.Refuse.{refusalsOf}
+use Rattle.exec.proofs.Laws.{moved}
+use Rattle.isa.specs.Fields.{fieldsOf, immI}
+use Rattle.isa.specs.declared.Instr.the-variants as I
+use Rattle.running.proofs.Goes.{next-goes}
 use Rattle.warp.specs.Warp.{next}
-use Rattle.hot.specs.Hot.{passing}
-use Rattle.hot.specs.HotLaws.{next-goes}
 use borrow.Author.Needs.{needs}
+use mathlib.Core.Path.{refl}
 use Rattle.exec.proofs.on.Statement.{statement}
 use Rattle.exec.proofs.on.Tie as tie
 
-next-requires : tie.Need-next-requires
-next-requires c κs = search needs
-
-returns : tie.Need-returns
-returns c = λ g x s n. next-goes (passing next) g _ x s _ (c .before .before .pre) n refl (c .next .ensures)
-
 pub on-spec : {M : Type 1} → statement M
-on-spec = tie.close (tie.spec next-requires returns)
+unfolding effectOf refusalsOf
+on-spec =
+    tie.close
+    (tie.spec
+    (λ c κs. search needs)
+    (λ c. let a = (c .before .before .args) in let f = fieldsOf (a .w) in λ g x s v d n. moved (I.Fence (f .rd) (f .rs1) (immI f)) next g (a .h .now) x s v d _ x s (next-goes g (a .h .now) x s (c .before .before .pre) n _ x next ((c .next) .ensures) refl) refl refl))

@@ -1,29 +1,69 @@
-use Prim.Native.Nat.{ℕ}
-use mathlib.Core.Path.{ap, ap₂, _∙_}
+use Rattle.definition.specs.Refuse.{refusalsOf}
+use Rattle.exec.proofs.Laws.{reg-arm}
+use Rattle.isa.specs.Fields.{fieldsOf}
+use Rattle.isa.specs.Kinds.{ofImmediates, ofProducts, ofSums, rowOf}
+use Rattle.isa.specs.Laws.{past}
+use Rattle.isa.specs.Table.{on}
+use Rattle.isa.specs.declared.Instr.the-variants.{Refused}
 use Rattle.word.specs.Word.{applyOf}
-use Rattle.hot.specs.Hot.{warpOf}
-use Rattle.definition.specs.Exec.{puts}
-use Rattle.exec.proofs.Arms.{via}
+use Rattle.word.specs.declared.Op.the-variants as O
 use borrow.Author.Needs.{needs}
+use mathlib.Core.List.{_++_}
+use mathlib.Core.Path.{_∙_, ap₂, sym}
 use Rattle.exec.proofs.op_reg.Statement.{statement}
 use Rattle.exec.proofs.op_reg.Tie as tie
 
-get-x-requires : tie.Need-get-x-requires
-get-x-requires c κs = search needs
-
-get-x-requires-2 : tie.Need-get-x-requires-2
-get-x-requires-2 c κs = search needs
-
-apply-requires : tie.Need-apply-requires
-apply-requires c κs = search needs
-
-puts-requires : tie.Need-puts-requires
-puts-requires c κs = search needs
-
-returns : tie.Need-returns
-unfolding warpOf
-returns c = let s = c .before .before .before .before .before .before .before .before in λ g. via _ _ _ g _ _ _ _ ((c .puts .ensures g) .runs) (λ t. ap (λ (y : ℕ). puts (s .args .r) y (warpOf g (s .args .h .now) (s .args .x .now) t)) (c .before .before .before .apply .ensures ∙ ap₂ (applyOf (s .args .o)) (c .before .before .before .before .before .before .get-x .ensures) (c .before .before .before .before .get-x2 .ensures)))
-
 pub op-reg-spec : {M : Type 1} → statement M
+unfolding rowOf refusalsOf
 op-reg-spec =
-    tie.close (tie.spec get-x-requires get-x-requires-2 apply-requires puts-requires returns)
+    tie.close
+    (tie.spec
+    (λ c κs. search needs)
+    (λ c κs. search needs)
+    (λ c κs. search needs)
+    (λ c κs. search needs)
+    (λ c κs. search needs)
+    (λ c κs. search needs)
+    (λ c κs. search needs)
+    (λ c κs. search needs)
+    (λ c κs. search needs)
+    (λ c κs. search needs)
+    (λ c κs. search needs)
+    (λ c κs. search needs)
+    (λ c κs. search needs)
+    (λ c κs. search needs)
+    (λ c κs. search needs)
+    (λ c κs. search needs)
+    (λ c κs. search needs)
+    (λ c κs. search needs)
+    (λ c κs. search needs)
+    (λ c κs. search needs)
+    (λ c κs. search needs)
+    (λ c κs. search needs)
+    (λ c κs. search needs)
+    (λ c κs. search needs)
+    (λ c κs. search needs)
+    (λ c κs. search needs)
+    (λ c κs. search needs)
+    (λ c κs. search needs)
+    (λ c κs. search needs)
+    (λ c κs. search needs)
+    (λ c κs. search needs)
+    (λ c κs. search needs)
+    (λ c κs. search needs)
+    (λ c κs. search needs)
+    (λ c κs. search needs)
+    (λ c κs. search needs)
+    (λ c κs. search needs)
+    (λ c κs. let a = (c .before .before .before .args) in let f = fieldsOf (a .w) in ((c .before .before .before .pre) .0, (c .before .before .before .pre) .1 ∙ sym (past (on f) Refused _ ofSums (ofProducts ++ ofImmediates) ((c .before .before .match) .rest))))
+    (λ c. let a = (c .before .before .before .before .before .before .before .before .before .args) in reg-arm (a .kind) (a .w) O.Add _ _ (a .h .now) (a .x .now) _ _ (rw ((c .before .before .before .before .before .before .before .before .match) .keys1)) ((c .before .before .before .add) .ensures ∙ ap₂ (applyOf O.Add) ((c .before .before .before .before .before .before .first) .ensures) ((c .before .before .before .before .second) .ensures)) ((c .gives) .ensures))
+    (λ c. let a = (c .before .before .before .before .before .before .before .before .before .args) in reg-arm (a .kind) (a .w) O.Sub _ _ (a .h .now) (a .x .now) _ _ (rw ((c .before .before .before .before .before .before .before .before .match) .keys2)) ((c .before .before .before .sub) .ensures ∙ ap₂ (applyOf O.Sub) ((c .before .before .before .before .before .before .first2) .ensures) ((c .before .before .before .before .second2) .ensures)) ((c .gives2) .ensures))
+    (λ c. let a = (c .before .before .before .before .before .before .before .before .before .args) in reg-arm (a .kind) (a .w) O.Sll _ _ (a .h .now) (a .x .now) _ _ (rw ((c .before .before .before .before .before .before .before .before .match) .keys3)) ((c .before .before .before .sll) .ensures ∙ ap₂ (applyOf O.Sll) ((c .before .before .before .before .before .before .first3) .ensures) ((c .before .before .before .before .second3) .ensures)) ((c .gives3) .ensures))
+    (λ c. let a = (c .before .before .before .before .before .before .before .before .before .args) in reg-arm (a .kind) (a .w) O.Srl _ _ (a .h .now) (a .x .now) _ _ (rw ((c .before .before .before .before .before .before .before .before .match) .keys4)) ((c .before .before .before .srl) .ensures ∙ ap₂ (applyOf O.Srl) ((c .before .before .before .before .before .before .first4) .ensures) ((c .before .before .before .before .second4) .ensures)) ((c .gives4) .ensures))
+    (λ c. let a = (c .before .before .before .before .before .before .before .before .before .args) in reg-arm (a .kind) (a .w) O.Sra _ _ (a .h .now) (a .x .now) _ _ (rw ((c .before .before .before .before .before .before .before .before .match) .keys5)) ((c .before .before .before .sra) .ensures ∙ ap₂ (applyOf O.Sra) ((c .before .before .before .before .before .before .first5) .ensures) ((c .before .before .before .before .second5) .ensures)) ((c .gives5) .ensures))
+    (λ c. let a = (c .before .before .before .before .before .before .before .before .before .args) in reg-arm (a .kind) (a .w) O.Slt _ _ (a .h .now) (a .x .now) _ _ (rw ((c .before .before .before .before .before .before .before .before .match) .keys6)) ((c .before .before .before .slt) .ensures ∙ ap₂ (applyOf O.Slt) ((c .before .before .before .before .before .before .first6) .ensures) ((c .before .before .before .before .second6) .ensures)) ((c .gives6) .ensures))
+    (λ c. let a = (c .before .before .before .before .before .before .before .before .before .args) in reg-arm (a .kind) (a .w) O.Sltu _ _ (a .h .now) (a .x .now) _ _ (rw ((c .before .before .before .before .before .before .before .before .match) .keys7)) ((c .before .before .before .sltu) .ensures ∙ ap₂ (applyOf O.Sltu) ((c .before .before .before .before .before .before .first7) .ensures) ((c .before .before .before .before .second7) .ensures)) ((c .gives7) .ensures))
+    (λ c. let a = (c .before .before .before .before .before .before .before .before .args) in reg-arm (a .kind) (a .w) O.And _ _ (a .h .now) (a .x .now) _ _ (rw ((c .before .before .before .before .before .before .before .match) .keys8)) (ap₂ (applyOf O.And) ((c .before .before .before .before .before .first8) .ensures) ((c .before .before .before .second8) .ensures)) ((c .gives8) .ensures))
+    (λ c. let a = (c .before .before .before .before .before .before .before .before .args) in reg-arm (a .kind) (a .w) O.Or _ _ (a .h .now) (a .x .now) _ _ (rw ((c .before .before .before .before .before .before .before .match) .keys9)) (ap₂ (applyOf O.Or) ((c .before .before .before .before .before .first9) .ensures) ((c .before .before .before .second9) .ensures)) ((c .gives9) .ensures))
+    (λ c. let a = (c .before .before .before .before .before .before .before .before .args) in reg-arm (a .kind) (a .w) O.Xor _ _ (a .h .now) (a .x .now) _ _ (rw ((c .before .before .before .before .before .before .before .match) .keys10)) (ap₂ (applyOf O.Xor) ((c .before .before .before .before .before .first10) .ensures) ((c .before .before .before .second10) .ensures)) ((c .gives10) .ensures))
+    (λ c. (c .op-mul) .ensures))

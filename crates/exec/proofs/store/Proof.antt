@@ -1,57 +1,35 @@
-use Prim.Native.Nat.{ℕ}
-use mathlib.Core.Path.{ap, sym, _∙_}
+use Rattle.definition.specs.Exec.{effectOf}
+use Rattle.definition.specs.Refuse.{refusalsOf}
+use Rattle.exec.proofs.Laws.{refused, row-fails, row-passes, stored}
+use Rattle.exec.specs.Steps.{lists}
+use Rattle.isa.specs.Fields.{fieldsOf, immS, x as xOf}
+use Rattle.isa.specs.Kinds.{storeOpOf}
 use Rattle.isa.specs.declared.Instr.the-variants as I
 use Rattle.memory.specs.Address.{plainOf}
-use Rattle.hot.specs.Hot.{warpOf}
-use Rattle.definition.specs.Exec.{effectOf}
-use Rattle.exec.proofs.Arms.{arm-saves, arm-refused, store-some, store-none, store-kept}
+use Rattle.memory.specs.Memory.{insideOf, memory, storeOf, widthOf}
+use Rattle.running.specs.Words.{fixedIn, warpOf}
+use Rattle.warp.specs.Warp.{next}
 use borrow.Author.Needs.{needs}
+use lib.ListN.{getD}
+use mathlib.Core.Path.{_∙_, ap, ap₂, refl, sym}
+use native.Mathlib.Omega.{arith}
 use Rattle.exec.proofs.store.Statement.{statement}
 use Rattle.exec.proofs.store.Tie as tie
 
-get-x-requires : tie.Need-get-x-requires
-get-x-requires c κs = search needs
-
-plain-address-requires : tie.Need-plain-address-requires
-plain-address-requires c κs = search needs
-
-element-copy-out-scalar-store : tie.Need-element-copy-out-scalar-store
-element-copy-out-scalar-store c = search needs
-
-get-x-requires-2 : tie.Need-get-x-requires-2
-get-x-requires-2 c κs = search needs
-
-scalar-store-requires : tie.Need-scalar-store-requires
-scalar-store-requires c κs = search needs
-
-next-requires : tie.Need-next-requires
-next-requires c κs = search needs
-
-same-length : tie.Need-same-length
-same-length c = search needs
-
-returns : tie.Need-returns
-unfolding warpOf effectOf
-returns c = let s = c .before .before .before .before .before .before .before .before .before .before .before .before in λ t v n. arm-saves (I.Store (s .args .k) (s .args .a) (s .args .b) (s .args .n)) (s .args .g .now) (s .args .h .now) (s .args .x .now) t v (s .args .d .now) (s .pre .0) n _ (c .next .ensures) _ (store-some (warpOf (s .args .g .now) (s .args .h .now) (s .args .x .now) t) (s .args .d .now) _ _ (c .before .before .before .before .before .before .before .before .before .plain-address .ensures ∙ ap (λ (y : ℕ). plainOf y (s .args .n)) (c .before .before .before .before .before .before .before .before .before .before .get-x .ensures)) (s .args .k) _ _ (c .before .before .before .before .before .before .get-x2 .ensures) _ (c .before .before .before .before .before .scalar-store .ensures .1) (sym (c .before .before .before .before .before .scalar-store .ensures .0) ∙ c .before .before .if1 .taken))
-
-same-length-2 : tie.Need-same-length-2
-same-length-2 c = search needs
-
-returns-2 : tie.Need-returns-2
-unfolding warpOf effectOf
-returns-2 c = let s = c .before .before .before .before .before .before .before .before .before .before in λ t v n. let e = sym (c .before .before .before .scalar-store .ensures .0) ∙ c .if1 .left in rw (store-kept (warpOf (s .args .g .now) (s .args .h .now) (s .args .x .now) t) (s .args .d .now) _ _ (c .before .before .before .before .before .before .before .plain-address .ensures ∙ ap (λ (y : ℕ). plainOf y (s .args .n)) (c .before .before .before .before .before .before .before .before .get-x .ensures)) (s .args .k) _ _ (c .before .before .before .before .get-x2 .ensures) _ (c .before .before .before .scalar-store .ensures .1) e) (arm-refused (I.Store (s .args .k) (s .args .a) (s .args .b) (s .args .n)) (s .args .g .now) (s .args .h .now) (s .args .x .now) t v (s .args .d .now) (s .pre .0) n 9 (store-none (warpOf (s .args .g .now) (s .args .h .now) (s .args .x .now) t) (s .args .d .now) _ _ (c .before .before .before .before .before .before .before .plain-address .ensures ∙ ap (λ (y : ℕ). plainOf y (s .args .n)) (c .before .before .before .before .before .before .before .before .get-x .ensures)) (s .args .k) _ _ (c .before .before .before .before .get-x2 .ensures) _ (c .before .before .before .scalar-store .ensures .1) e))
-
 pub store-spec : {M : Type 1} → statement M
+unfolding effectOf refusalsOf warpOf
 store-spec =
     tie.close
     (tie.spec
-    get-x-requires
-    plain-address-requires
-    element-copy-out-scalar-store
-    get-x-requires-2
-    scalar-store-requires
-    next-requires
-    same-length
-    returns
-    same-length-2
-    returns-2)
+    (λ c κs. search needs)
+    (λ c κs. search needs)
+    (λ c κs. search needs)
+    (λ c. search needs)
+    (λ c κs. search needs)
+    (λ c κs. search needs)
+    (λ c κs. search needs)
+    (λ c κs. search needs)
+    (λ c. search needs)
+    (λ c. let a = (c .before .before .before .before .before .before .before .before .before .before .before .before .before .before .args) in let f = fieldsOf (a .w) in λ s v n. rw ((c .before .before .before .before .before .scalar-store) .ensures .1, (c .before .before .if1) .taken, (c .before .before .before .before .before .before .before .store-op) .ensures, ((c .before .before .before .before .before .before .before .before .before .before .plain-address) .ensures ∙ ap₂ plainOf ((c .before .before .before .before .before .before .before .before .before .before .before .before .first) .ensures) ((c .before .before .before .before .before .before .before .before .before .before .before .imm-s) .ensures .0)), (c .before .before .before .before .before .before .second) .ensures) (stored (I.Store (storeOpOf f) (xOf (f .rs1)) (xOf (f .rs2)) (immS f)) (a .g .now) (a .h .now) (a .x .now) s v (a .d .now) _ ((c .before .before .before .before .before .before .before .before .before .before .before .before .before .before .pre) .0) n ((c .next) .ensures) (row-passes 9 (insideOf (memory (fixedIn (a .g .now) .database) (a .d .now)) (widthOf (storeOpOf f)) (plainOf (getD (a .x .now) (f .rs1) 0) (immS f))) (sym ((c .before .before .before .before .before .scalar-store) .ensures .0 ∙ rw ((c .before .before .before .before .before .before .before .store-op) .ensures) (ap (insideOf (memory (fixedIn (a .g .now) .database) (a .d .now)) (widthOf (storeOpOf f))) ((c .before .before .before .before .before .before .before .before .before .before .plain-address) .ensures ∙ ap₂ plainOf ((c .before .before .before .before .before .before .before .before .before .before .before .before .first) .ensures) ((c .before .before .before .before .before .before .before .before .before .before .before .imm-s) .ensures .0)))) ∙ (c .before .before .if1) .taken)) (storeOf (storeOpOf f) (plainOf (getD (a .x .now) (f .rs1) 0) (immS f)) (getD (a .x .now) (f .rs2) 0) (memory (fixedIn (a .g .now) .database) (a .d .now))) refl))
+    (λ c. search needs)
+    (λ c. let a = (c .before .before .before .before .before .before .before .before .before .before .before .before .args) in let f = fieldsOf (a .w) in λ s v n. rw ((c .before .before .before .scalar-store) .ensures .1, (c .if1) .left) (refused (I.Store (storeOpOf f) (xOf (f .rs1)) (xOf (f .rs2)) (immS f)) 9 (lists (a .g .now) (a .h .now) (a .x .now) s v (a .d .now)) (λ z. omega arith) ((c .before .before .before .before .before .before .before .before .before .before .before .before .pre) .0) n (row-fails 9 (insideOf (memory (fixedIn (a .g .now) .database) (a .d .now)) (widthOf (storeOpOf f)) (plainOf (getD (a .x .now) (f .rs1) 0) (immS f))) (sym ((c .before .before .before .scalar-store) .ensures .0 ∙ rw ((c .before .before .before .before .before .store-op) .ensures) (ap (insideOf (memory (fixedIn (a .g .now) .database) (a .d .now)) (widthOf (storeOpOf f))) ((c .before .before .before .before .before .before .before .before .plain-address) .ensures ∙ ap₂ plainOf ((c .before .before .before .before .before .before .before .before .before .before .first) .ensures) ((c .before .before .before .before .before .before .before .before .before .imm-s) .ensures .0)))) ∙ (c .if1) .left)))))

@@ -1,43 +1,37 @@
 use Prim.Native.Nat.{ℕ}
-use mathlib.Core.Path.{refl, ap, ap₂, _∙_}
-use native.Mathlib.Omega.{arith}
+use Rattle.definition.specs.Exec.{effectOf, goes}
+use Rattle.definition.specs.Refuse.{refusalsOf}
+use Rattle.exec.proofs.Laws.{moved, refused, row-holds, row-silent, split-test}
+use Rattle.exec.specs.Steps.{lists}
+use Rattle.isa.specs.Fields.{fieldsOf, immB, v as vOf}
+use Rattle.isa.specs.Kinds.{condOf}
 use Rattle.isa.specs.declared.Instr.the-variants as I
 use Rattle.lanes.specs.Lanes.{maskOf, wantsOf}
 use Rattle.lanes.specs.MaskLaws.{part-in}
-use Rattle.warp.specs.Splits.{vbranchOf}
-use Rattle.hot.specs.Hot.{maskIn, warpOf}
-use Rattle.definition.specs.Exec.{pcOffset, effectOf}
-use Rattle.exec.proofs.Arms.{arm, goes-as}
+use Rattle.running.specs.Words.{fixedIn, maskIn, pcIn, warpOf}
+use Rattle.warp.specs.Splits.{parted}
+use Rattle.word.specs.Word.{addOf, extendOf}
 use borrow.Author.Needs.{needs}
+use mathlib.Core.Bool.{cond, false, true}
+use mathlib.Core.Path.{_∙_, ap, ap₂, sym}
+use native.Mathlib.Omega.{arith}
 use Rattle.exec.proofs.vbranch.Statement.{statement}
 use Rattle.exec.proofs.vbranch.Tie as tie
 
-element-copy-out-else-mask : tie.Need-element-copy-out-else-mask
-element-copy-out-else-mask c = search needs
-
-threads-requires : tie.Need-threads-requires
-threads-requires c κs = search needs
-
-else-mask-requires : tie.Need-else-mask-requires
-else-mask-requires c κs = let s = c .before .before .before in (s .pre .0 .file, (s .pre .1 .1 .1 .0, (s .pre .1 .1 .1 .1 .0, (omega (arith, c .threads .ensures, s .pre .0 .few), rw (c .threads .ensures) (s .pre .0 .mask)))))
-
-offset-requires : tie.Need-offset-requires
-offset-requires c κs = search needs
-
-vbranch-requires : tie.Need-vbranch-requires
-vbranch-requires c κs = let s = c .before .before .before .before .before .before .before .before in (s .pre .0 .long, s .pre .1 .0, s .pre .1 .1 .0, rw (c .before .before .before .before .else-mask .ensures) (part-in (maskIn (s .args .h .now)) _ _ (rw (c .before .before .before .before .before .threads .ensures) (s .pre .0 .mask))))
-
-returns : tie.Need-returns
-unfolding warpOf effectOf
-returns c = let s = c .before .before .before .before .before .before .before .before .before in λ x d. arm (I.VBranch (s .args .t) (s .args .a) (s .args .b) (s .args .n)) (goes-as (λ w. vbranchOf (maskOf (w .fixed .numt) (wantsOf (s .args .v .now) (w .mask) (s .args .t) (s .args .a) (s .args .b))) (pcOffset 13 (s .args .n) w) w) (ap₂ (λ (e p : ℕ). vbranchOf e p (warpOf (s .args .g .now) (s .args .h .now) x (s .args .s .now))) (c .before .before .before .before .before .else-mask .ensures ∙ ap (λ (m : ℕ). maskOf m (wantsOf (s .args .v .now) (maskIn (s .args .h .now)) (s .args .t) (s .args .a) (s .args .b))) (c .before .before .before .before .before .before .threads .ensures)) (c .before .before .before .offset .ensures)) (c .vbranch .ensures (s .args .g .now) x)) (λ w. refl)
-
 pub vbranch-spec : {M : Type 1} → statement M
+unfolding warpOf effectOf refusalsOf
 vbranch-spec =
     tie.close
     (tie.spec
-    element-copy-out-else-mask
-    threads-requires
-    else-mask-requires
-    offset-requires
-    vbranch-requires
-    returns)
+    (λ c. search needs)
+    (λ c κs. search needs)
+    (λ c κs. search needs)
+    (λ c κs. search needs)
+    (λ c κs. search needs)
+    (λ c κs. ((c .before .before .before .before .before .before .pre) .0 .at .file, ((c .before .vs1) .ensures .1, ((c .vs2) .ensures .1, (omega (arith, (c .before .before .before .threads) .ensures, (c .before .before .before .before .before .before .pre) .0 .at .fixed .lanes .1), rw ((c .before .before .before .threads) .ensures) ((c .before .before .before .before .before .before .pre) .0 .at .below))))))
+    (λ c κs. search needs)
+    (λ c. search needs)
+    (λ c κs. search needs)
+    (λ c. let a = (c .before .before .before .before .before .before .before .before .before .before .before .args) in let f = fieldsOf (a .w) in λ x d. refused (I.VBranch (condOf f) (vOf (f .rs1)) (vOf (f .rs2)) (immB f)) 8 (lists (a .g .now) (a .h .now) x (a .s .now) (a .v .now) d) (λ z. omega arith) ((c .before .before .before .before .before .before .before .before .before .before .before .pre) .0 .long) ((c .before .before .before .before .before .before .before .before .before .before .before .pre) .1 .0) (row-holds 8 _ (split-test _ (maskOf (fixedIn (a .g .now) .numt) (wantsOf (a .v .now) (maskIn (a .h .now)) (condOf f) (vOf (f .rs1)) (vOf (f .rs2)))) _ (addOf (pcIn (a .h .now)) (extendOf 13 (immB f))) true ((c .before .before .before .before .else-mask) .ensures ∙ rw ((c .before .before .before .before .before .before .before .before .threads) .ensures, (c .before .before .before .before .before .before .before .cond) .ensures, (c .before .before .before .before .before .before .vs1) .ensures .0, (c .before .before .before .before .before .vs2) .ensures .0)) ((c .before .offset) .ensures ∙ ap (λ (z : ℕ). addOf (pcIn (a .h .now)) (extendOf 13 z)) ((c .before .before .imm-b) .ensures .0)) ((c .if1) .taken))))
+    (λ c κs. let a = (c .before .before .before .before .before .before .before .before .before .before .before .before .before .args) in ((c .before .before .before .before .before .before .before .before .before .before .before .before .before .pre) .0 .long, (c .before .before .before .before .before .before .before .before .before .before .before .before .before .pre) .1 .0, (c .before .before .before .before .before .before .before .before .before .before .before .before .before .pre) .1 .1, rw ((c .before .before .before .before .before .before .else-mask) .ensures) (part-in (maskIn (a .h .now)) _ _ (rw ((c .before .before .before .before .before .before .before .before .before .before .threads) .ensures) ((c .before .before .before .before .before .before .before .before .before .before .before .before .before .pre) .0 .at .below)))))
+    (λ c. let a = (c .before .before .before .before .before .before .before .before .before .before .before .before .before .before .args) in let f = fieldsOf (a .w) in λ x d. moved (I.VBranch (condOf f) (vOf (f .rs1)) (vOf (f .rs2)) (immB f)) (parted ((c .before .before .before .before .before .before .before .else-mask) .result) ((c .before .before .before .before .offset) .result)) (a .g .now) (a .h .now) x (a .s .now) (a .v .now) d _ x _ ((c .part) .ensures (a .g .now) x) (row-silent 8 _ (split-test _ (maskOf (fixedIn (a .g .now) .numt) (wantsOf (a .v .now) (maskIn (a .h .now)) (condOf f) (vOf (f .rs1)) (vOf (f .rs2)))) _ (addOf (pcIn (a .h .now)) (extendOf 13 (immB f))) false ((c .before .before .before .before .before .before .before .else-mask) .ensures ∙ rw ((c .before .before .before .before .before .before .before .before .before .before .before .threads) .ensures, (c .before .before .before .before .before .before .before .before .before .before .cond) .ensures, (c .before .before .before .before .before .before .before .before .before .vs1) .ensures .0, (c .before .before .before .before .before .before .before .before .vs2) .ensures .0)) ((c .before .before .before .before .offset) .ensures ∙ ap (λ (z : ℕ). addOf (pcIn (a .h .now)) (extendOf 13 z)) ((c .before .before .before .before .before .imm-b) .ensures .0)) ((c .before .before .before .if1) .left))) (ap₂ (λ (e p : ℕ). goes (parted e p (warpOf (a .g .now) (a .h .now) x (a .s .now)))) (sym ((c .before .before .before .before .before .before .before .else-mask) .ensures ∙ rw ((c .before .before .before .before .before .before .before .before .before .before .before .threads) .ensures, (c .before .before .before .before .before .before .before .before .before .before .cond) .ensures, (c .before .before .before .before .before .before .before .before .before .vs1) .ensures .0, (c .before .before .before .before .before .before .before .before .vs2) .ensures .0))) (sym ((c .before .before .before .before .offset) .ensures ∙ ap (λ (z : ℕ). addOf (pcIn (a .h .now)) (extendOf 13 z)) ((c .before .before .before .before .before .imm-b) .ensures .0))))))

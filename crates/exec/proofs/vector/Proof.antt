@@ -1,47 +1,31 @@
-use Prim.Native.Nat.{ℕ}
-use mathlib.Core.Path.{refl, ap₂, _∙_}
-use native.Mathlib.Omega.{arith}
-use Rattle.isa.specs.declared.Instr.the-variants as I
-use Rattle.lanes.specs.declared.Operand.{Operand}
-use Rattle.lanes.specs.Mask.{bit}
-use Rattle.lanes.specs.Lanes.{writeLanes, opLane}
-use Rattle.hot.specs.Hot.{maskIn, warpOf}
+use Prim.Native.Nat.{_%_}
 use Rattle.definition.specs.Exec.{effectOf}
-use Rattle.exec.proofs.Arms.{arm-writes}
+use Rattle.definition.specs.Refuse.{refusalsOf}
+use Rattle.exec.proofs.Laws.{written}
+use Rattle.isa.specs.Fields.{fieldsOf}
+use Rattle.isa.specs.Kinds.{opLimit, vectorWord}
+use Rattle.isa.specs.Number.{opAt}
+use Rattle.lanes.specs.Mask.{bit}
+use Rattle.running.specs.Words.{maskIn, warpOf}
+use Rattle.warp.specs.Warp.{next}
 use borrow.Author.Needs.{needs}
+use mathlib.Core.Path.{_∙_, refl}
+use native.Mathlib.Omega.{arith}
 use Rattle.exec.proofs.vector.Statement.{statement}
 use Rattle.exec.proofs.vector.Tie as tie
 
-source-requires : tie.Need-source-requires
-source-requires c κs = search needs
-
-element-copy-out-op-lanes : tie.Need-element-copy-out-op-lanes
-element-copy-out-op-lanes c = search needs
-
-threads-requires : tie.Need-threads-requires
-threads-requires c κs = search needs
-
-op-lanes-requires : tie.Need-op-lanes-requires
-op-lanes-requires c κs = let s = c .before .before .before .before .before in (s .pre .0 .file, (s .pre .1 .0, (s .pre .1 .1 .0, (c .before .before .before .source .ensures .0, omega (arith, c .threads .ensures, s .pre .0 .few)))))
-
-next-requires : tie.Need-next-requires
-next-requires c κs = search needs
-
-same-length : tie.Need-same-length
-same-length c = search needs
-
-returns : tie.Need-returns
-unfolding warpOf effectOf
-returns c = let s = c .before .before .before .before .before .before .before .before .before .before in λ t d n. arm-writes (I.Vector (s .args .o) (s .args .a)) (s .args .g .now) (s .args .h .now) (s .args .x .now) t (s .args .v .now) d (s .pre .0 .long) n _ (c .next .ensures) _ _ _ refl (c .before .before .before .before .op-lanes .ensures ∙ ap₂ (λ (m : ℕ) (b : Operand). writeLanes m (bit (maskIn (s .args .h .now))) (s .args .a .vd) (opLane (s .args .o) (s .args .v .now) (s .args .a .vs2) b) (s .args .v .now)) (c .before .before .before .before .before .threads .ensures) (c .before .before .before .before .before .before .before .before .source .ensures .1 (s .args .g .now) (s .args .h .now) t))
-
 pub vector-spec : {M : Type 1} → statement M
+unfolding warpOf effectOf refusalsOf
 vector-spec =
     tie.close
     (tie.spec
-    source-requires
-    element-copy-out-op-lanes
-    threads-requires
-    op-lanes-requires
-    next-requires
-    same-length
-    returns)
+    (λ c κs. search needs)
+    (λ c κs. search needs)
+    (λ c. search needs)
+    (λ c κs. search needs)
+    (λ c κs. search needs)
+    (λ c κs. search needs)
+    (λ c κs. ((c .before .before .before .before .before .before .before .before .pre) .at .file, ((c .before .vd) .ensures .1, ((c .vs2) .ensures .1, ((c .before .before .before .before .before .before .operand) .ensures .0, (omega (arith, (c .before .before .threads) .ensures, (c .before .before .before .before .before .before .before .before .pre) .at .fixed .lanes .1), rw ((c .before .before .threads) .ensures) ((c .before .before .before .before .before .before .before .before .pre) .at .below)))))))
+    (λ c κs. search needs)
+    (λ c. search needs)
+    (λ c. let a = (c .before .before .before .before .before .before .before .before .before .before .before .before .before .args) in let f = fieldsOf (a .w) in λ s d n. written (vectorWord (opAt (a .kind % opLimit)) f) (a .g .now) (a .h .now) (a .x .now) s (a .v .now) d _ ((c .before .before .before .before .before .before .before .before .before .before .before .before .before .pre) .long) n ((c .next) .ensures) refl (bit (maskIn (a .h .now))) _ _ _ refl ((c .before .before .before .before .op-lanes) .ensures ∙ rw ((c .before .before .before .before .before .before .before .threads) .ensures, (c .before .before .before .before .before .before .before .before .before .before .op-at) .ensures, (c .before .before .before .before .before .before .vd) .ensures .0, (c .before .before .before .before .before .vs2) .ensures .0, (c .before .before .before .before .before .before .before .before .before .before .before .operand) .ensures .1 (a .g .now) (a .h .now) s (a .v .now) d))))

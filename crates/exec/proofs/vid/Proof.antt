@@ -1,41 +1,26 @@
-use Prim.Native.Nat.{ℕ}
-use mathlib.Core.Path.{refl, ap, _∙_}
+use Rattle.definition.specs.Exec.{effectOf}
+use Rattle.definition.specs.Refuse.{refusalsOf}
+use Rattle.exec.proofs.Laws.{written}
+use Rattle.isa.specs.Fields.{fieldsOf, v as vOf}
 use Rattle.isa.specs.declared.Instr.the-variants as I
 use Rattle.lanes.specs.Mask.{bit}
-use Rattle.lanes.specs.Lanes.{writeLanes}
-use Rattle.hot.specs.Hot.{maskIn, warpOf}
-use Rattle.definition.specs.Exec.{effectOf}
-use Rattle.exec.proofs.Arms.{arm-writes}
+use Rattle.running.specs.Words.{maskIn, warpOf}
+use Rattle.warp.specs.Warp.{next}
 use borrow.Author.Needs.{needs}
+use mathlib.Core.Path.{_∙_, refl}
+use native.Mathlib.Omega.{arith}
 use Rattle.exec.proofs.vid.Statement.{statement}
 use Rattle.exec.proofs.vid.Tie as tie
 
-element-copy-out-id-lanes : tie.Need-element-copy-out-id-lanes
-element-copy-out-id-lanes c = search needs
-
-threads-requires : tie.Need-threads-requires
-threads-requires c κs = search needs
-
-id-lanes-requires : tie.Need-id-lanes-requires
-id-lanes-requires c κs = search needs
-
-next-requires : tie.Need-next-requires
-next-requires c κs = search needs
-
-same-length : tie.Need-same-length
-same-length c = search needs
-
-returns : tie.Need-returns
-unfolding warpOf effectOf
-returns c = let s = c .before .before .before .before .before .before .before .before .before in λ x t d n. arm-writes (I.Vid (s .args .r)) (s .args .g .now) (s .args .h .now) x t (s .args .v .now) d (s .pre .0 .long) n _ (c .next .ensures) _ _ _ refl (c .before .before .before .before .id-lanes .ensures ∙ ap (λ (m : ℕ). writeLanes m (bit (maskIn (s .args .h .now))) (s .args .r) (λ l. l) (s .args .v .now)) (c .before .before .before .before .before .threads .ensures))
-
 pub vid-spec : {M : Type 1} → statement M
+unfolding warpOf effectOf refusalsOf
 vid-spec =
     tie.close
     (tie.spec
-    element-copy-out-id-lanes
-    threads-requires
-    id-lanes-requires
-    next-requires
-    same-length
-    returns)
+    (λ c. search needs)
+    (λ c κs. search needs)
+    (λ c κs. search needs)
+    (λ c κs. ((c .before .before .before .before .before .pre) .at .file, ((c .vd) .ensures .1, omega (arith, (c .before .threads) .ensures, (c .before .before .before .before .before .pre) .at .fixed .lanes .1))))
+    (λ c κs. search needs)
+    (λ c. search needs)
+    (λ c. let a = (c .before .before .before .before .before .before .before .before .before .before .args) in let f = fieldsOf (a .w) in λ x s d n. written (I.Vid (vOf (f .rd))) (a .g .now) (a .h .now) x s (a .v .now) d _ ((c .before .before .before .before .before .before .before .before .before .before .pre) .long) n ((c .next) .ensures) refl (bit (maskIn (a .h .now))) _ _ _ refl ((c .before .before .before .before .id-lanes) .ensures ∙ rw ((c .before .before .before .before .before .before .threads) .ensures, (c .before .before .before .before .before .vd) .ensures .0))))

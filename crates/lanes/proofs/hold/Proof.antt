@@ -17,34 +17,10 @@ Inv-loop c n a b out₀ l₀ out l = (l ≤ n) × (out ≡ maskOf l (holdsLane c
 abbrev μ-loop : tie.MeasureT-loop
 μ-loop c n a b out₀ l₀ out l = n - l
 
-loop-holds : tie.Need-loop-holds Inv-loop μ-loop
-loop-holds c = (omega arith, each-none _ _ _)
-
-mul-holds : tie.Need-mul-holds Inv-loop μ-loop
-mul-holds c = search needs
-
-element-copy-out-holds : tie.Need-element-copy-out-holds Inv-loop μ-loop
-element-copy-out-holds c = search needs
-
-mul-holds-2 : tie.Need-mul-holds-2 Inv-loop μ-loop
-mul-holds-2 c = search needs
-
-element-copy-out-holds-2 : tie.Need-element-copy-out-holds-2 Inv-loop μ-loop
-element-copy-out-holds-2 c = search needs
-
-holds-requires : tie.Need-holds-requires Inv-loop μ-loop
-holds-requires c κs = search needs
-
 with-requires : tie.Need-with-requires Inv-loop μ-loop
 with-requires c κs =
     let k = c .before .before .before .before in
     (omega arith, subst (λ (m : ℕ). m < 2 ^ k .loop .l) (sym (k .loop .inv .1)) (mask-lt _ (k .loop .l)))
-
-add-l : tie.Need-add-l Inv-loop μ-loop
-add-l c = search needs
-
-loop-less : tie.Need-loop-less Inv-loop μ-loop
-loop-less c = search needs
 
 loop-again : tie.Need-loop-again Inv-loop μ-loop
 loop-again c =
@@ -60,17 +36,6 @@ returns c =
 pub hold-spec : {M : Type 1} → statement M
 hold-spec =
     tie.close
-    (tie.spec
-    Inv-loop
-    μ-loop
-    loop-holds
-    mul-holds
-    element-copy-out-holds
-    mul-holds-2
-    element-copy-out-holds-2
-    holds-requires
-    with-requires
-    add-l
-    loop-less
-    loop-again
-    returns)
+    (tie.spec Inv-loop μ-loop (λ c. (omega arith, each-none _ _ _))
+    (λ c. search needs) (λ c. search needs) (λ c. search needs) (λ c. search needs) (λ c κs. search needs) with-requires (λ c. search needs) (λ c. search needs)
+    loop-again returns)

@@ -1,47 +1,47 @@
-use borrow.Author.Needs.{needs}
 use Prim.Native.Nat.{_-_}
-use Rattle.machine.proofs.Runs.{Going, going-start, going-on, drives-stop, drives-end, stop-lengths}
+use mathlib.Core.Path.{_≡_, refl}
+use Rattle.exec.specs.Steps.{lists}
+use Rattle.machine.proofs.Runs.{Going, going-start, going-on, step-lengths, drives-stop, drives-end}
+use borrow.Author.Needs.{needs}
 use Rattle.machine.proofs.drive.Statement.{statement}
 use Rattle.machine.proofs.drive.Tie as tie
 
 abbrev Inv-loop : tie.InvT-loop
-Inv-loop h₀ g x₀ s₀ kernel vector₀ bytes₀ n t₀ h x s vector bytes t = Going kernel n g h₀ x₀ s₀ vector₀ bytes₀ h x s vector bytes t
+Inv-loop h₀ g x₀ s₀ kernel vector₀ bytes₀ n g₁ h₁ t₁ code₁ x s vector bytes h t code =
+    Going kernel n (lists g h₀ x₀ s₀ vector₀ bytes₀) (lists g h x s vector bytes) t × (code ≡ 0)
 
 abbrev μ-loop : tie.MeasureT-loop
-μ-loop h₀ g x₀ s₀ kernel vector₀ bytes₀ n t₀ h x s vector bytes t = n - t
+μ-loop h₀ g x₀ s₀ kernel vector₀ bytes₀ n g₁ h₁ t₁ code₁ x s vector bytes h t code = n - t
 
 loop-holds : tie.Need-loop-holds Inv-loop μ-loop
-loop-holds c = going-start _ _ _ _ _ _ _ _ (c .before .before .before .pre)
+loop-holds c = (going-start _ _ _ (c .before .before .before .before .before .pre), refl)
 
 step-requires : tie.Need-step-requires Inv-loop μ-loop
-step-requires c κs = c .before .before .before .before .before .before .loop .inv .started
-
-same-length : tie.Need-same-length Inv-loop μ-loop
-same-length c = stop-lengths _ _ _ _ _ _ _ _ _ _ _ _ _ _ (c .before .before .before .before .before .before .before .before .before .before .before .before .loop .inv) (c .before .before .before .before .before .before .before .before .before .before .before .loop-test .taken) _ _ _ _ _ _ (c .before .before .before .before .before .step .ensures) (c .if1 .taken) .0
-
-same-length-2 : tie.Need-same-length-2 Inv-loop μ-loop
-same-length-2 c = stop-lengths _ _ _ _ _ _ _ _ _ _ _ _ _ _ (c .before .before .before .before .before .before .before .before .before .before .before .before .loop .inv) (c .before .before .before .before .before .before .before .before .before .before .before .loop-test .taken) _ _ _ _ _ _ (c .before .before .before .before .before .step .ensures) (c .if1 .taken) .1
-
-returns : tie.Need-returns Inv-loop μ-loop
-returns c = drives-stop _ _ _ _ _ _ _ _ _ _ _ _ _ _ (c .before .before .before .before .before .before .before .before .before .before .before .before .loop .inv) (c .before .before .before .before .before .before .before .before .before .before .before .loop-test .taken) _ _ _ _ _ _ (c .before .before .before .before .before .step .ensures) (c .if1 .taken)
-
-add-t : tie.Need-add-t Inv-loop μ-loop
-add-t c = search needs
-
-loop-less : tie.Need-loop-less Inv-loop μ-loop
-loop-less c = search needs
+step-requires c κs = c .before .before .before .before .before .before .before .loop .inv .0 .started
 
 loop-again : tie.Need-loop-again Inv-loop μ-loop
-loop-again c = going-on _ _ _ _ _ _ _ _ _ _ _ _ _ _ (c .before .before .before .before .before .before .before .before .before .before .before .before .loop .inv) (c .before .before .before .before .before .before .before .before .before .before .before .loop-test .taken) _ _ _ _ _ _ (c .before .before .before .before .before .step .ensures) (c .if1 .left)
+loop-again c =
+    let step = c .before .before .before .before .before in
+    let loop = step .before .before .before .before .before .before .before in
+    (going-on _ _ _ _ _ (loop .before .loop .inv .0) (loop .loop-test .taken) _ _ (step .step .ensures) (c .if1 .left), c .if1 .left)
+
+ends : tie.Need-returns Inv-loop μ-loop
+ends c = drives-end _ _ _ _ _ _ (c .before .loop .inv .0) (c .before .loop .inv .1) (c .loop-test .left)
+
+abbrev step : tie.Then1 Inv-loop μ-loop → tie.After-step Inv-loop μ-loop
+step c = c .before .before .before .before .before
+
+abbrev loop : tie.Then1 Inv-loop μ-loop → tie.In-loop Inv-loop μ-loop
+loop c = step c .before .before .before .before .before .before .before
 
 same-length-3 : tie.Need-same-length-3 Inv-loop μ-loop
-same-length-3 c = c .before .loop .inv .vector
+same-length-3 c = step-lengths _ _ _ _ _ (loop c .before .loop .inv .0) (loop c .loop-test .taken) _ _ (step c .step .ensures) .0
 
 same-length-4 : tie.Need-same-length-4 Inv-loop μ-loop
-same-length-4 c = c .before .loop .inv .bytes
+same-length-4 c = step-lengths _ _ _ _ _ (loop c .before .loop .inv .0) (loop c .loop-test .taken) _ _ (step c .step .ensures) .1
 
-returns-2 : tie.Need-returns-2 Inv-loop μ-loop
-returns-2 c = drives-end _ _ _ _ _ _ _ _ _ _ _ _ _ _ (c .before .loop .inv) (c .loop-test .left)
+stops : tie.Need-returns-2 Inv-loop μ-loop
+stops c = drives-stop _ _ _ _ _ (loop c .before .loop .inv .0) (loop c .loop-test .taken) _ _ (step c .step .ensures) (c .if1 .taken)
 
 pub drive-spec : {M : Type 1} → statement M
 drive-spec =
@@ -51,12 +51,12 @@ drive-spec =
     μ-loop
     loop-holds
     step-requires
-    same-length
-    same-length-2
-    returns
-    add-t
-    loop-less
+    (λ c. search needs)
+    (λ c. search needs)
     loop-again
+    (λ c. c .before .loop .inv .0 .vector)
+    (λ c. c .before .loop .inv .0 .bytes)
+    ends
     same-length-3
     same-length-4
-    returns-2)
+    stops)

@@ -1,52 +1,48 @@
-use mathlib.Core.Path.{sym, _∙_}
+use mathlib.Core.Path.{_≡_, sym, _∙_}
+use mathlib.Core.Bool.{true}
 use borrow.Author.Tests.{not-true, not-false}
+use Rattle.definition.specs.Refuse.{runsOkOf}
 use Rattle.definition.proofs.Sizes.{sizes}
-use Rattle.machine.proofs.Runs.{launch-size, launch-range, launch-done}
+use Rattle.definition.proofs.Calls.{launch-size, launch-range, launch-done}
 use borrow.Author.Needs.{needs}
 use Rattle.machine.proofs.launch.Statement.{statement}
 use Rattle.machine.proofs.launch.Tie as tie
 
-runs-ok-requires : tie.Need-runs-ok-requires
-runs-ok-requires c κs = search needs
-
-zero-warp-requires : tie.Need-zero-warp-requires
-zero-warp-requires c κs = search needs
-
 returns : tie.Need-returns
-returns c = rw (c .zero-warp .ensures) (launch-size _ _ _ _ (sym (c .before .before .runs-ok .ensures) ∙ not-true _ (c .before .if1 .taken)))
+returns c = rw (c .zero-warp .ensures) (sym (launch-size _ _ _ _ (sym (c .before .before .runs-ok .ensures) ∙ not-true _ (c .before .if1 .taken))))
 
-launch-ok-requires : tie.Need-launch-ok-requires
-launch-ok-requires c κs = search needs
-
-zero-warp-requires-2 : tie.Need-zero-warp-requires-2
-zero-warp-requires-2 c κs = search needs
+-- the sizes are right
+sized : (c : tie.Else1) → (let a = c .before .before .before .before .before .before .before .args in runsOkOf (a .l .fixed) (a .kernel .now) (a .vector .now) (a .bytes .now)) ≡ true
+sized c = sym (c .before .runs-ok .ensures) ∙ not-false _ (c .if1 .left)
 
 returns-2 : tie.Need-returns-2
-returns-2 c = rw (c .zero-warp2 .ensures) (launch-range _ _ _ _ (sym (c .before .before .before .before .runs-ok .ensures) ∙ not-false _ (c .before .before .before .if1 .left)) (sym (c .before .before .launch-ok .ensures) ∙ not-true _ (c .before .if2 .taken)))
+returns-2 c =
+    let test = c .before .before in
+    rw (c .zero-warp2 .ensures) (sym (launch-range _ _ _ _ (sized (test .before)) (sym (test .launch-ok .ensures) ∙ not-true _ (c .before .if2 .taken))))
 
 clear-requires : tie.Need-clear-requires
-clear-requires c κs = sizes _ _ _ _ (sym (c .before .before .before .before .runs-ok .ensures) ∙ not-false _ (c .before .before .before .if1 .left)) .file-is
-
-launched-requires : tie.Need-launched-requires
-launched-requires c κs = search needs
-
-same-length : tie.Need-same-length
-same-length c = search needs
+clear-requires c κs = sizes _ _ _ _ (sized (c .before .before .before)) .file-is
 
 returns-3 : tie.Need-returns-3
-returns-3 c = rw (c .launched .ensures, c .before .before .before .clear .ensures) (launch-done _ _ _ _ (sym (c .before .before .before .before .before .before .before .before .runs-ok .ensures) ∙ not-false _ (c .before .before .before .before .before .before .before .if1 .left)) (sym (c .before .before .before .before .before .before .launch-ok .ensures) ∙ not-false _ (c .before .before .before .before .before .if2 .left)))
+returns-3 c =
+    let clear = c .before .before .before in
+    let left = clear .before .before in
+    rw (c .launched .ensures, clear .clear .ensures)
+    (sym (launch-done _ _ _ _ (sized (left .before .before)) (sym (left .before .launch-ok .ensures) ∙ not-false _ (left .if2 .left))))
 
 pub launch-spec : {M : Type 1} → statement M
 launch-spec =
     tie.close
     (tie.spec
-    runs-ok-requires
-    zero-warp-requires
+    (λ c κs. search needs)
+    (λ c κs. search needs)
+    (λ c. search needs)
     returns
-    launch-ok-requires
-    zero-warp-requires-2
+    (λ c κs. search needs)
+    (λ c κs. search needs)
+    (λ c. search needs)
     returns-2
     clear-requires
-    launched-requires
-    same-length
+    (λ c κs. search needs)
+    (λ c. search needs)
     returns-3)

@@ -1,21 +1,22 @@
 use mathlib.Core.Path.{sym, _∙_}
 use borrow.Author.Tests.{not-true, not-false}
-use Rattle.machine.proofs.Runs.{release-malformed, release-runs, release-waits}
+use Rattle.definition.proofs.Calls.{release-malformed, release-runs, release-waits}
 use borrow.Author.Needs.{needs}
 use Rattle.machine.proofs.release.Statement.{statement}
 use Rattle.machine.proofs.release.Tie as tie
 
-well-formed-requires : tie.Need-well-formed-requires
-well-formed-requires c κs = search needs
-
 returns : tie.Need-returns
-returns c = release-malformed _ (sym (c .before .well-formed .ensures) ∙ not-true _ (c .if1 .taken))
+returns c = sym (release-malformed _ (sym (c .before .well-formed .ensures) ∙ not-true _ (c .if1 .taken)))
 
 returns-2 : tie.Need-returns-2
-returns-2 c = release-runs _ (sym (c .before .before .before .well-formed .ensures) ∙ not-false _ (c .before .before .if1 .left)) (not-true _ (c .if2 .taken))
+returns-2 c =
+    let formed = c .before .before in
+    sym (release-runs _ (sym (formed .before .well-formed .ensures) ∙ not-false _ (formed .if1 .left)) (not-true _ (c .if2 .taken)))
 
 returns-3 : tie.Need-returns-3
-returns-3 c = release-waits _ (sym (c .before .before .before .well-formed .ensures) ∙ not-false _ (c .before .before .if1 .left)) (not-false _ (c .if2 .left))
+returns-3 c =
+    let formed = c .before .before in
+    sym (release-waits _ (sym (formed .before .well-formed .ensures) ∙ not-false _ (formed .if1 .left)) (not-false _ (c .if2 .left)))
 
 pub release-spec : {M : Type 1} → statement M
-release-spec = tie.close (tie.spec well-formed-requires returns returns-2 returns-3)
+release-spec = tie.close (tie.spec (λ c κs. search needs) returns returns-2 returns-3)

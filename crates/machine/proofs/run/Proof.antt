@@ -1,64 +1,58 @@
-use mathlib.Core.Path.{sym, _∙_}
+use mathlib.Core.Path.{_≡_, sym, _∙_}
+use lib.ListN.{length}
 use borrow.Author.Tests.{not-true, not-false}
-use Rattle.warp.specs.Formed.{depth-le}
-use Rattle.machine.proofs.Runs.{run-size, run-malformed, run-started, run-goes}
+use Rattle.warp.specs.Chain.{mapped}
+use Rattle.warp.specs.Warp.{splitCount}
+use Rattle.running.proofs.Formed.{deep-malformed}
+use Rattle.definition.proofs.Calls.{run-size, run-malformed}
+use Rattle.machine.proofs.Runs.{run-goes}
 use borrow.Author.Needs.{needs}
 use Rattle.machine.proofs.run.Statement.{statement}
 use Rattle.machine.proofs.run.Tie as tie
 
-runs-ok-requires : tie.Need-runs-ok-requires
-runs-ok-requires c κs = search needs
+long : (s : tie.Start) → length (s .args .w .splits) ≡ splitCount
+long s = search (needs, mapped)
 
 returns : tie.Need-returns
-returns c = run-size _ _ _ _ _ (sym (c .before .runs-ok .ensures) ∙ not-true _ (c .if1 .taken))
-
-well-formed-requires : tie.Need-well-formed-requires
-well-formed-requires c κs = search needs
+returns c = rw (c .refused-run .ensures) (sym (run-size _ _ _ (sym (c .before .before .runs-ok .ensures) ∙ not-true _ (c .before .if1 .taken))))
 
 returns-2 : tie.Need-returns-2
-returns-2 c = run-malformed _ _ _ _ _ (sym (c .before .before .before .runs-ok .ensures) ∙ not-false _ (c .before .before .if1 .left)) (sym (c .before .well-formed .ensures) ∙ not-true _ (c .if2 .taken))
-
-fixed-of-requires : tie.Need-fixed-of-requires
-fixed-of-requires c κs = search needs
-
-hot-of-requires : tie.Need-hot-of-requires
-hot-of-requires c κs = depth-le _ (sym (c .before .before .before .well-formed .ensures) ∙ not-false _ (c .before .before .if2 .left))
-
-flat-requires : tie.Need-flat-requires
-flat-requires c κs = search needs
-
-drive-requires : tie.Need-drive-requires
-drive-requires c κs = run-started _ 0 (c .before .before .before .before .before .before .before .before .before .before .before .before .before .before .before .before .before .before .before .args .w) _ _ (sym (c .before .before .before .before .before .before .before .before .before .before .before .before .before .before .runs-ok .ensures) ∙ not-false _ (c .before .before .before .before .before .before .before .before .before .before .before .before .before .if1 .left)) (sym (c .before .before .before .before .before .before .before .before .before .before .before .before .well-formed .ensures) ∙ not-false _ (c .before .before .before .before .before .before .before .before .before .before .before .if2 .left)) _ _ _ (c .before .before .before .before .before .before .before .before .before .fixed-of .ensures) (c .before .before .before .before .before .before .before .before .hot-of .ensures) (c .before .before .before .before .before .before .flat .ensures)
-
-together-requires : tie.Need-together-requires
-together-requires c κs = search needs
+returns-2 c =
+    let sized = c .before .before .before in
+    rw (c .refused-run2 .ensures) (sym (run-malformed _ _ _ (sym (sized .before .runs-ok .ensures) ∙ not-false _ (sized .if1 .left)) (deep-malformed _ (c .before .if2 .taken))))
 
 answer-of-requires : tie.Need-answer-of-requires
-answer-of-requires c κs = search needs
-
-same-length : tie.Need-same-length
-same-length c = search needs
-
-same-length-2 : tie.Need-same-length-2
-same-length-2 c = search needs
+answer-of-requires c κs = c .before .before .before .before .before .before .before .before .run-words .ensures .known
 
 returns-3 : tie.Need-returns-3
-returns-3 c = rw (c .answer-of .ensures) (run-goes _ _ (c .before .before .before .before .before .before .before .before .before .before .before .before .before .before .before .before .before .before .before .before .before .before .before .before .before .before .before .before .args .w) _ _ (sym (c .before .before .before .before .before .before .before .before .before .before .before .before .before .before .before .before .before .before .before .before .before .before .before .runs-ok .ensures) ∙ not-false _ (c .before .before .before .before .before .before .before .before .before .before .before .before .before .before .before .before .before .before .before .before .before .before .if1 .left)) (sym (c .before .before .before .before .before .before .before .before .before .before .before .before .before .before .before .before .before .before .before .before .before .well-formed .ensures) ∙ not-false _ (c .before .before .before .before .before .before .before .before .before .before .before .before .before .before .before .before .before .before .before .before .if2 .left)) _ _ _ (c .before .before .before .before .before .before .before .before .before .before .before .before .before .before .before .before .before .before .fixed-of .ensures) (c .before .before .before .before .before .before .before .before .before .before .before .before .before .before .before .before .before .hot-of .ensures) (c .before .before .before .before .before .before .before .before .before .before .before .before .before .before .before .flat .ensures) _ _ _ _ _ _ _ _ (c .before .before .before .before .before .before .before .before .drive .ensures) (c .before .together .ensures (c .before .before .before .before .before .before .before .before .before .before .before .before .before .before .before .before .before .before .fixed-of .result) (rw (c .before .before .before .before .before .before .before .before .before .before .before .before .before .before .before .before .before .before .fixed-of .ensures))))
+returns-3 c =
+    let ran = c .before .before .before .before .before .before .before .before .before in
+    let flat = ran .before .before .before .before .before .before .before in
+    let moving = flat .before .before in
+    let left = moving .before .before .before in
+    let start = left .before .before .before .before .before .before .before .before .before .before in
+    rw (c .answer-of .ensures)
+    (run-goes (start .args .w) (long start) (left .if2 .left) _ _ _ (moving .before .fixed-of .ensures) (moving .moving-of .ensures) (flat .flat .ensures) _ _ _ _ _ _ _ _ (ran .run-words .ensures) (c .before .together .ensures))
 
 pub run-spec : {M : Type 1} → statement M
 run-spec =
     tie.close
     (tie.spec
-    runs-ok-requires
+    (λ c κs. search needs)
+    (λ c κs. search needs)
+    (λ c. search needs)
+    (λ c. search needs)
     returns
-    well-formed-requires
+    (λ c κs. search needs)
+    (λ c. search needs)
+    (λ c. search needs)
     returns-2
-    fixed-of-requires
-    hot-of-requires
-    flat-requires
-    drive-requires
-    together-requires
+    (λ c κs. search needs)
+    (λ c κs. search needs)
+    (λ c κs. search needs)
+    (λ c κs. search needs)
+    (λ c κs. search needs)
     answer-of-requires
-    same-length
-    same-length-2
+    (λ c. search needs)
+    (λ c. search needs)
     returns-3)

@@ -1,16 +1,15 @@
-use Rattle.memory.proofs.Access.{none-outside}
 use borrow.Author.Needs.{needs}
+use Rattle.lanes.specs.Rows.{at}
+use Rattle.memory.specs.Memory.{memory}
+use Rattle.memory.proofs.Access.{none-outside}
 use Rattle.memory.proofs.all_inside.Statement.{statement}
 use Rattle.memory.proofs.all_inside.Tie as tie
 
-outside-requires : tie.Need-outside-requires
-outside-requires c κs = search needs
-
 returns : tie.Need-returns
 returns c =
-    let s = c .before in
+    let s = c .before .before in
     let g = s .args in
-    none-outside (g .n) (g .mask) (g .base) (g .len) (g .w) (c .outside .result) (g .o .now) (s .pre .0) (c .outside .ensures)
+    none-outside (g .n) (g .mask) (memory (g .base) (g .d .now)) (g .w) (at (g .o .now)) (c .outside .result) (s .pre .0) (c .outside .ensures)
 
 pub all-inside-spec : {M : Type 1} → statement M
-all-inside-spec = tie.close (tie.spec outside-requires returns)
+all-inside-spec = tie.close (tie.spec (λ c κs. search needs) returns)

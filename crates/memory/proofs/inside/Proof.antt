@@ -1,20 +1,16 @@
 use mathlib.Core.Path.{ap₂, _∙_}
 use lib.Dec.{ltb}
-use Rattle.memory.proofs.Access.{place-inside}
 use borrow.Author.Needs.{needs}
+use Rattle.memory.specs.Memory.{memory}
+use Rattle.memory.proofs.Access.{place-inside}
 use Rattle.memory.proofs.inside.Statement.{statement}
 use Rattle.memory.proofs.inside.Tie as tie
 
-sub-requires : tie.Need-sub-requires
-sub-requires c κs = search needs
-
-room-requires : tie.Need-room-requires
-room-requires c κs = search needs
-
 returns : tie.Need-returns
 returns c =
-    let s = c .before .before in
-    ap₂ ltb (c .before .sub .ensures) (c .room .ensures) ∙ place-inside (s .args .base) (s .args .len) (s .args .w) (s .args .a) (s .fits .a .fits) (s .pre .0 .1) (s .pre .1 .0)
+    let s = c .before .before .before in
+    let g = s .args in
+    ap₂ ltb (c .before .sub .ensures) (c .room .ensures) ∙ place-inside (memory (g .base) (g .d .now)) (g .w) (g .a) (s .fits .a .fits) (s .pre .0) (s .pre .1 .0)
 
 pub inside-spec : {M : Type 1} → statement M
-inside-spec = tie.close (tie.spec sub-requires room-requires returns)
+inside-spec = tie.close (tie.spec (λ c κs. search needs) (λ c κs. search needs) returns)

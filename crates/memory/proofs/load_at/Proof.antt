@@ -1,58 +1,36 @@
-use mathlib.Core.Path.{ap, subst, _∙_}
+use mathlib.Core.Path.{_≡_, refl, ap, _∙_}
 use Prim.Native.Nat.{_+_, _≤_}
 use lib.ListN.{length}
+use borrow.Author.Needs.{needs}
 use Rattle.word.specs.Word.{extendOf}
 use Rattle.isa.specs.declared.LoadOp.{LoadOp}
-use Rattle.memory.specs.Memory.{sizeOf}
-use borrow.Author.Needs.{needs}
+use Rattle.memory.specs.Memory.{memory, sizeOf, indexIn}
+use Rattle.memory.proofs.Access.{inside-true}
 use Rattle.memory.proofs.load_at.Statement.{statement}
 use Rattle.memory.proofs.load_at.Tie as tie
 
-enum-told : tie.Need-enum-told
-enum-told c = search needs
+-- the bytes lie inside, at an operation that is known
+fits : (s : tie.Start) {k : LoadOp} → s .args .k ≡ k →
+    let g = s .args in
+    (g .base ≤ g .a) × (indexIn (memory (g .base) (g .d .now)) (g .a) + sizeOf k ≤ length (g .d .now))
+fits s {k} e =
+    let g = s .args in
+    inside-true (memory (g .base) (g .d .now)) (sizeOf k) (g .a) (rw e at (s .pre))
 
 byte-at-requires : tie.Need-byte-at-requires
-byte-at-requires c κs =
-    let s = c .before .before .before in
-    subst (λ (k : LoadOp). s .args .i + sizeOf k ≤ length (s .args .d .now)) (c .enum-told .given .1) (s .pre)
-
-extend-requires : tie.Need-extend-requires
-extend-requires c κs = search needs
-
-enum-told-2 : tie.Need-enum-told-2
-enum-told-2 c = search needs
+byte-at-requires c κs = fits (c .before .before .before) (c .enum-told .given .1) .1
 
 half-at-requires : tie.Need-half-at-requires
-half-at-requires c κs =
-    let s = c .before .before .before in
-    subst (λ (k : LoadOp). s .args .i + sizeOf k ≤ length (s .args .d .now)) (c .enum-told2 .given .1) (s .pre)
-
-extend-requires-2 : tie.Need-extend-requires-2
-extend-requires-2 c κs = search needs
-
-enum-told-3 : tie.Need-enum-told-3
-enum-told-3 c = search needs
+half-at-requires c κs = fits (c .before .before .before) (c .enum-told2 .given .1) .1
 
 word-at-requires : tie.Need-word-at-requires
-word-at-requires c κs =
-    let s = c .before .before .before in
-    subst (λ (k : LoadOp). s .args .i + sizeOf k ≤ length (s .args .d .now)) (c .enum-told3 .given .1) (s .pre)
-
-enum-told-4 : tie.Need-enum-told-4
-enum-told-4 c = search needs
+word-at-requires c κs = fits (c .before .before .before) (c .enum-told3 .given .1) .1
 
 byte-at-requires-2 : tie.Need-byte-at-requires-2
-byte-at-requires-2 c κs =
-    let s = c .before .before .before in
-    subst (λ (k : LoadOp). s .args .i + sizeOf k ≤ length (s .args .d .now)) (c .enum-told4 .given .1) (s .pre)
-
-enum-told-5 : tie.Need-enum-told-5
-enum-told-5 c = search needs
+byte-at-requires-2 c κs = fits (c .before .before .before) (c .enum-told4 .given .1) .1
 
 half-at-requires-2 : tie.Need-half-at-requires-2
-half-at-requires-2 c κs =
-    let s = c .before .before .before in
-    subst (λ (k : LoadOp). s .args .i + sizeOf k ≤ length (s .args .d .now)) (c .enum-told5 .given .1) (s .pre)
+half-at-requires-2 c κs = fits (c .before .before .before) (c .enum-told5 .given .1) .1
 
 returns : tie.Need-returns
 returns c = rw (c .before .before .enum-told .given .1) (c .extend .ensures ∙ ap (extendOf 8) (c .before .byte-at .ensures .0))
@@ -73,17 +51,19 @@ pub load-at-spec : {M : Type 1} → statement M
 load-at-spec =
     tie.close
     (tie.spec
-    enum-told
+    (λ c. fits (c .before) refl .0)
+    (λ c. search needs)
+    (λ c. search needs)
     byte-at-requires
-    extend-requires
-    enum-told-2
+    (λ c κs. search needs)
+    (λ c. search needs)
     half-at-requires
-    extend-requires-2
-    enum-told-3
+    (λ c κs. search needs)
+    (λ c. search needs)
     word-at-requires
-    enum-told-4
+    (λ c. search needs)
     byte-at-requires-2
-    enum-told-5
+    (λ c. search needs)
     half-at-requires-2
     returns
     returns-2

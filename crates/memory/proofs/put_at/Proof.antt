@@ -1,50 +1,35 @@
-use mathlib.Core.Path.{subst}
+use mathlib.Core.Path.{_≡_, refl}
 use Prim.Native.Nat.{_+_, _≤_}
 use lib.ListN.{length}
-use Rattle.isa.specs.declared.StoreOp.{StoreOp}
-use Rattle.memory.specs.Memory.{widthOf}
 use borrow.Author.Needs.{needs}
+use Rattle.isa.specs.declared.StoreOp.{StoreOp}
+use Rattle.memory.specs.Memory.{memory, widthOf, indexIn}
+use Rattle.memory.proofs.Access.{inside-true}
 use Rattle.memory.proofs.put_at.Statement.{statement}
 use Rattle.memory.proofs.put_at.Tie as tie
 
-enum-told : tie.Need-enum-told
-enum-told c = search needs
+-- the bytes lie inside, at an operation that is known
+fits : (s : tie.Start) {k : StoreOp} → s .args .k ≡ k →
+    let g = s .args in
+    (g .base ≤ g .a) × (indexIn (memory (g .base) (g .d .now)) (g .a) + widthOf k ≤ length (g .d .now))
+fits s {k} e =
+    let g = s .args in
+    inside-true (memory (g .base) (g .d .now)) (widthOf k) (g .a) (rw e at (s .pre))
 
 put-byte-requires : tie.Need-put-byte-requires
-put-byte-requires c κs =
-    let s = c .before .before .before .before in
-    subst (λ (k : StoreOp). s .args .i + widthOf k ≤ length (s .args .d .now)) (c .before .enum-told .given .1) (s .pre)
-
-enum-told-2 : tie.Need-enum-told-2
-enum-told-2 c = search needs
+put-byte-requires c κs = fits (c .before .before .before .before) (c .before .enum-told .given .1) .1
 
 put-half-requires : tie.Need-put-half-requires
-put-half-requires c κs =
-    let s = c .before .before .before .before in
-    subst (λ (k : StoreOp). s .args .i + widthOf k ≤ length (s .args .d .now)) (c .before .enum-told2 .given .1) (s .pre)
-
-enum-told-3 : tie.Need-enum-told-3
-enum-told-3 c = search needs
+put-half-requires c κs = fits (c .before .before .before .before) (c .before .enum-told2 .given .1) .1
 
 put-word-requires : tie.Need-put-word-requires
-put-word-requires c κs =
-    let s = c .before .before .before .before in
-    subst (λ (k : StoreOp). s .args .i + widthOf k ≤ length (s .args .d .now)) (c .before .enum-told3 .given .1) (s .pre)
-
-same-length : tie.Need-same-length
-same-length c = search needs
+put-word-requires c κs = fits (c .before .before .before .before) (c .before .enum-told3 .given .1) .1
 
 returns : tie.Need-returns
 returns c = rw (c .before .before .before .before .enum-told .given .1) (c .before .before .put-byte .ensures)
 
-same-length-2 : tie.Need-same-length-2
-same-length-2 c = search needs
-
 returns-2 : tie.Need-returns-2
 returns-2 c = rw (c .before .before .before .before .enum-told2 .given .1) (c .before .before .put-half .ensures)
-
-same-length-3 : tie.Need-same-length-3
-same-length-3 c = search needs
 
 returns-3 : tie.Need-returns-3
 returns-3 c = rw (c .before .before .before .before .enum-told3 .given .1) (c .before .before .put-word .ensures)
@@ -53,15 +38,17 @@ pub put-at-spec : {M : Type 1} → statement M
 put-at-spec =
     tie.close
     (tie.spec
-    enum-told
+    (λ c. fits (c .before) refl .0)
+    (λ c. search needs)
+    (λ c. search needs)
     put-byte-requires
-    enum-told-2
+    (λ c. search needs)
     put-half-requires
-    enum-told-3
+    (λ c. search needs)
     put-word-requires
-    same-length
+    (λ c. search needs)
     returns
-    same-length-2
+    (λ c. search needs)
     returns-2
-    same-length-3
+    (λ c. search needs)
     returns-3)

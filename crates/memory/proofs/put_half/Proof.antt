@@ -8,18 +8,6 @@ use borrow.Author.Needs.{needs}
 use Rattle.memory.proofs.put_half.Statement.{statement}
 use Rattle.memory.proofs.put_half.Tie as tie
 
-put-byte-requires : tie.Need-put-byte-requires
-put-byte-requires c κs = search needs
-
-add-put-byte : tie.Need-add-put-byte
-add-put-byte c = search needs
-
-put-byte-requires-2 : tie.Need-put-byte-requires-2
-put-byte-requires-2 c κs = search needs
-
-same-length : tie.Need-same-length
-same-length c = search needs
-
 returns : tie.Need-returns
 unfolding leBytes
 returns c =
@@ -32,4 +20,4 @@ returns c =
 
 pub put-half-spec : {M : Type 1} → statement M
 put-half-spec =
-    tie.close (tie.spec put-byte-requires add-put-byte put-byte-requires-2 same-length returns)
+    tie.close (tie.spec (λ c κs. search needs) (λ c. search needs) (λ c κs. search needs) (λ c. search needs) returns)

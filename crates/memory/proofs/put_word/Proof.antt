@@ -8,18 +8,6 @@ use borrow.Author.Needs.{needs}
 use Rattle.memory.proofs.put_word.Statement.{statement}
 use Rattle.memory.proofs.put_word.Tie as tie
 
-put-half-requires : tie.Need-put-half-requires
-put-half-requires c κs = search needs
-
-add-put-half : tie.Need-add-put-half
-add-put-half c = search needs
-
-put-half-requires-2 : tie.Need-put-half-requires-2
-put-half-requires-2 c κs = search needs
-
-same-length : tie.Need-same-length
-same-length c = search needs
-
 returns : tie.Need-returns
 unfolding leBytes
 returns c =
@@ -32,4 +20,4 @@ returns c =
 
 pub put-word-spec : {M : Type 1} → statement M
 put-word-spec =
-    tie.close (tie.spec put-half-requires add-put-half put-half-requires-2 same-length returns)
+    tie.close (tie.spec (λ c κs. search needs) (λ c. search needs) (λ c κs. search needs) (λ c. search needs) returns)

@@ -1,96 +1,60 @@
-use borrow.Author.Needs.{needs}
-use mathlib.Core.Path.{_≡_, sym, ap, subst, _∙_}
+use mathlib.Core.Path.{_≡_, sym, ap, _∙_}
 use mathlib.Core.List.{List}
 use mathlib.Core.Logic.{⊎-elim}
-use Prim.Native.Nat.{ℕ, _≤_, _<_, _-_, _+_}
+use Prim.Native.Nat.{ℕ, _≤_, _-_}
 use native.Mathlib.Nat.{le-antisymm}
 use native.Mathlib.Omega.{arith}
 use lib.ListN.{length}
-use lib.Seq.{sets}
+use borrow.Author.Needs.{needs}
 use Rattle.lanes.specs.Mask.{bit}
 use Rattle.lanes.specs.Laws.{each-none, each-on, each-off}
-use Rattle.memory.specs.Memory.{widthOf}
+use Rattle.lanes.specs.Rows.{at}
+use Rattle.memory.specs.Memory.{memory, widthOf, storeOf}
 use Rattle.memory.specs.LaneAccess.{storeLanes}
-use Rattle.memory.specs.Laws.{lanes-length}
-use Rattle.memory.specs.Rows.{placeLane, bytesLane}
-use Rattle.memory.proofs.Access.{lane-place, lane-fits}
+use Rattle.memory.proofs.Access.{inside-length, all-inside-at}
+use Rattle.memory.proofs.Laws.{lanes-length}
 use Rattle.memory.proofs.store.Statement.{statement}
 use Rattle.memory.proofs.store.Tie as tie
 
 abbrev Inv-loop : tie.InvT-loop
-Inv-loop d₀ mask k n base o x l₀ d l = (l ≤ n) × (d ≡ storeLanes l (bit mask) (placeLane base o) (bytesLane k x) d₀)
+Inv-loop d₀ base k mask n o x l₀ d l = (l ≤ n) × (d ≡ storeLanes l (bit mask) k (at o) (at x) (memory base d₀))
 
 abbrev μ-loop : tie.MeasureT-loop
-μ-loop d₀ mask k n base o x l₀ d l = n - l
+μ-loop d₀ base k mask n o x l₀ d l = n - l
 
 same-long : (k : tie.At-loop Inv-loop μ-loop) → length (k .loop .d) ≡ length (k .before .before .args .d .now)
 same-long k =
     let g = k .before .before .args in
-    ap length (k .loop .inv .1) ∙ lanes-length (k .loop .l) (bit (g .mask)) (placeLane (g .base) (g .o .now)) (bytesLane (g .k) (g .x .now)) (g .d .now)
-
-loop-holds : tie.Need-loop-holds Inv-loop μ-loop
-loop-holds c = (omega arith, each-none _ _ _)
-
-active-requires : tie.Need-active-requires Inv-loop μ-loop
-active-requires c κs = search needs
-
-mul-place : tie.Need-mul-place Inv-loop μ-loop
-mul-place c = search needs
-
-element-copy-out-place : tie.Need-element-copy-out-place Inv-loop μ-loop
-element-copy-out-place c = search needs
-
-place-requires : tie.Need-place-requires Inv-loop μ-loop
-place-requires c κs = search needs
-
-mul-put-at : tie.Need-mul-put-at Inv-loop μ-loop
-mul-put-at c = search needs
-
-element-copy-out-put-at : tie.Need-element-copy-out-put-at Inv-loop μ-loop
-element-copy-out-put-at c = search needs
+    ap length (k .loop .inv .1) ∙ lanes-length (k .loop .l) (bit (g .mask)) (g .k) (at (g .o .now)) (at (g .x .now)) (memory (g .base) (g .d .now))
 
 put-at-requires : tie.Need-put-at-requires Inv-loop μ-loop
 put-at-requires c κs =
-    let t = c .before .before .before .before in
+    let t = c .before .before .before in
     let k = t .before .before .before in
     let s = k .before .before in
     let g = s .args in
-    let below : k .loop .l < g .n = omega arith in
-    subst (λ (m : ℕ). c .before .place .result + widthOf (g .k) ≤ m) (sym (same-long k))
-    (subst (λ (i : ℕ). i + widthOf (g .k) ≤ length (g .d .now)) (sym (c .before .place .ensures)) (lane-fits (s .pre) (k .loop .l) below (sym (t .before .active .ensures) ∙ t .if1 .taken)))
-
-add-l : tie.Need-add-l Inv-loop μ-loop
-add-l c = search needs
-
-loop-less : tie.Need-loop-less Inv-loop μ-loop
-loop-less c = search needs
+    inside-length (g .base) (k .loop .d) (g .d .now) (widthOf (g .k)) (at (g .o .now) (k .loop .l)) (same-long k)
+    ∙ all-inside-at (g .n) (bit (g .mask)) (memory (g .base) (g .d .now)) (widthOf (g .k)) (at (g .o .now)) (s .pre .1) (k .loop .l) (omega arith) (sym (t .before .active .ensures) ∙ t .if1 .taken)
 
 loop-again : tie.Need-loop-again Inv-loop μ-loop
 loop-again c =
     let a = c .before in
     let k = a .before .before in
-    let s = k .before .before in
-    let g = s .args in
+    let g = k .before .before .args in
     let on = bit (g .mask) in
-    let low : k .loop .l < g .n = omega arith in
-    let step : ℕ → List ℕ → List ℕ = λ l u. sets u (placeLane (g .base) (g .o .now) l) (bytesLane (g .k) (g .x .now) l) in (
+    let step : ℕ → List ℕ → List ℕ = λ l u. storeOf (g .k) (at (g .o .now) l) (at (g .x .now) l) (memory (g .base) u) in (
       omega arith,
       ⊎-elim
-          (λ w.
-          let t = sym (a .active .ensures) ∙ w .0 .taken in
-          each-on on step (g .d .now) (k .loop .l) (k .loop .d) (c .if1 .d) t
-          (w .8 ∙ w .5 .ensures ∙ ap (λ (i : ℕ). sets (k .loop .d) i (bytesLane (g .k) (g .x .now) (k .loop .l))) (w .3 .ensures ∙ lane-place (s .pre) (k .loop .l) low t)) (k .loop .inv .1))
+          (λ w. each-on on step (g .d .now) (k .loop .l) (k .loop .d) (c .if1 .d) (sym (a .active .ensures) ∙ w .0 .taken) (w .7 ∙ w .4 .ensures) (k .loop .inv .1))
           (λ w. each-off on step (g .d .now) (k .loop .l) (c .if1 .d) (sym (a .active .ensures) ∙ w .0 .left) (w .1 ∙ k .loop .inv .1))
           (c .if1 .came),
     )
 
-same-length : tie.Need-same-length Inv-loop μ-loop
-same-length c = same-long (c .before)
-
 returns : tie.Need-returns Inv-loop μ-loop
 returns c =
-    let g = c .before .before .before .args in
-    c .before .loop .inv .1 ∙ ap (λ (n : ℕ). storeLanes n (bit (g .mask)) (placeLane (g .base) (g .o .now)) (bytesLane (g .k) (g .x .now)) (g .d .now)) (le-antisymm (c .before .loop .inv .0) (c .loop-test .left))
+    let k = c .before in
+    let g = k .before .before .args in
+    k .loop .inv .1 ∙ ap (λ (n : ℕ). storeLanes n (bit (g .mask)) (g .k) (at (g .o .now)) (at (g .x .now)) (memory (g .base) (g .d .now))) (le-antisymm (k .loop .inv .0) (c .loop-test .left))
 
 pub store-spec : {M : Type 1} → statement M
 store-spec =
@@ -98,16 +62,15 @@ store-spec =
     (tie.spec
     Inv-loop
     μ-loop
-    loop-holds
-    active-requires
-    mul-place
-    element-copy-out-place
-    place-requires
-    mul-put-at
-    element-copy-out-put-at
+    (λ c. (omega arith, each-none _ _ _))
+    (λ c κs. search needs)
+    (λ c. search needs)
+    (λ c. search needs)
+    (λ c. search needs)
+    (λ c. search needs)
     put-at-requires
-    add-l
-    loop-less
+    (λ c. search needs)
+    (λ c. search needs)
     loop-again
-    same-length
+    (λ c. same-long (c .before))
     returns)

@@ -3,18 +3,6 @@ use borrow.Author.Needs.{needs}
 use Rattle.printout.proofs.digit.Statement.{statement}
 use Rattle.printout.proofs.digit.Tie as tie
 
-cast-result : tie.Need-cast-result
-cast-result c = search needs
-
-add-result : tie.Need-add-result
-add-result c = search needs
-
-cast-result-2 : tie.Need-cast-result-2
-cast-result-2 c = search needs
-
-add-result-2 : tie.Need-add-result-2
-add-result-2 c = search needs
-
 returns : tie.Need-returns
 returns c = rw (lt-ltb _ 10 (c .if1 .taken))
 
@@ -23,4 +11,11 @@ returns-2 c = rw (le-ltb _ 10 (c .if1 .left))
 
 pub digit-spec : {M : Type 1} → statement M
 digit-spec =
-    tie.close (tie.spec cast-result add-result cast-result-2 add-result-2 returns returns-2)
+    tie.close
+    (tie.spec
+    (λ c. search needs)
+    (λ c. search needs)
+    (λ c. search needs)
+    (λ c. search needs)
+    returns
+    returns-2)

@@ -4,26 +4,28 @@ use borrow.Author.Needs.{needs}
 use Rattle.printout.proofs.put_decimal_line.Statement.{statement}
 use Rattle.printout.proofs.put_decimal_line.Tie as tie
 
-put-text-requires : tie.Need-put-text-requires
-put-text-requires c κs = search needs
-
 put-decimal-requires : tie.Need-put-decimal-requires
-put-decimal-requires c κs = omega (arith, decimal-size (c .before .before .before .before .before .before .before .args .n), c .before .before .before .put-text .kept .0, c .before .before .before .put-text .ensures .end, c .before .before .before .before .before .before .before .pre)
+put-decimal-requires c κs = let start = c .before .before .before .before .before .before .before in omega (arith, decimal-size (start .args .n))
 
 put-byte-requires : tie.Need-put-byte-requires
-put-byte-requires c κs = omega (arith, decimal-size (c .before .before .before .before .before .before .before .before .before .before .before .args .n), c .before .before .before .put-decimal .kept .0, c .before .before .before .before .before .before .before .put-text .kept .0, c .before .before .before .put-decimal .ensures .end, c .before .before .before .before .before .before .before .put-text .ensures .end, c .before .before .before .before .before .before .before .before .before .before .before .pre)
-
-same-length : tie.Need-same-length
-same-length c = search needs
+put-byte-requires c κs =
+    let value = c .before .before .before in
+    let start = value .before .before .before .before .before .before .before .before in
+    omega (arith, decimal-size (start .args .n))
 
 returns : tie.Need-returns
 returns c =
-    let name = c .before .before .before .before .before .before .before .before .before .before .put-text .ensures in
-    let value = c .before .before .before .before .before .before .put-decimal .ensures in
-    let feed = c .before .before .put-byte .ensures in
-    (puts-then (puts-then name value) feed, omega (arith, decimal-size (c .before .before .before .before .before .before .before .before .before .before .before .before .before .before .args .n), name .end, value .end, feed .end))
+    let feed = c .before .before in
+    let value = feed .before .before .before .before in
+    let name = value .before .before .before .before in
+    (puts-then (puts-then (name .put-text .ensures) (value .put-decimal .ensures)) (feed .put-byte .ensures), omega (arith, decimal-size (name .before .before .before .before .args .n)))
 
 pub put-decimal-line-spec : {M : Type 1} → statement M
 put-decimal-line-spec =
     tie.close
-    (tie.spec put-text-requires put-decimal-requires put-byte-requires same-length returns)
+    (tie.spec
+    (λ c κs. search needs)
+    put-decimal-requires
+    put-byte-requires
+    (λ c. search needs)
+    returns)

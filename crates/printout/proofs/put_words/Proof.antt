@@ -13,34 +13,10 @@ Inv-loop kernel words₀ n i₀ words i = (i ≤ n) × (length words ≡ length 
 abbrev μ-loop : tie.MeasureT-loop
 μ-loop kernel words₀ n i₀ words i = n - i
 
-loop-holds : tie.Need-loop-holds Inv-loop μ-loop
-loop-holds c = (omega arith, refl, refl)
-
-mul-word-at : tie.Need-mul-word-at Inv-loop μ-loop
-mul-word-at c = omega arith
-
-word-at-requires : tie.Need-word-at-requires Inv-loop μ-loop
-word-at-requires c κs = omega arith
-
-mul-words : tie.Need-mul-words Inv-loop μ-loop
-mul-words c = omega arith
-
-slice-write-words : tie.Need-slice-write-words Inv-loop μ-loop
-slice-write-words c = omega arith
-
-add-i : tie.Need-add-i Inv-loop μ-loop
-add-i c = omega arith
-
-loop-less : tie.Need-loop-less Inv-loop μ-loop
-loop-less c = omega arith
-
 loop-again : tie.Need-loop-again Inv-loop μ-loop
 loop-again c =
     let i = c .before .before .loop in
     (omega arith, simp length-set (i .inv .1), rw (c .word-at .ensures) (words-more (c .before .before .before .before .before .args .kernel .now) (i .words) (i .i) (omega arith) (i .inv .2)))
-
-same-length : tie.Need-same-length Inv-loop μ-loop
-same-length c = c .before .loop .inv .1
 
 returns : tie.Need-returns Inv-loop μ-loop
 unfolding wordsOf
@@ -55,13 +31,13 @@ put-words-spec =
     (tie.spec
     Inv-loop
     μ-loop
-    loop-holds
-    mul-word-at
-    word-at-requires
-    mul-words
-    slice-write-words
-    add-i
-    loop-less
+    (λ c. (omega arith, refl, refl))
+    (λ c. omega arith)
+    (λ c κs. omega arith)
+    (λ c. omega arith)
+    (λ c. omega arith)
+    (λ c. omega arith)
+    (λ c. omega arith)
     loop-again
-    same-length
+    (λ c. c .before .loop .inv .1)
     returns)

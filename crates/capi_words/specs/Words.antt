@@ -1,0 +1,17 @@
+-- The calls for C and Rust that look at single words.
+use Prim.Native.Nat.{ℕ}
+use mathlib.Core.Bool.{cond}
+use denote.Enum.Declared.{tagOf}
+use lib.Dec.{eqb}
+use Rattle.isa.proofs.Instr.{the-type}
+use Rattle.isa.specs.declared.Instr.{Instr}
+use Rattle.isa.specs.declared.Instr.the-variants.{Refused}
+use Rattle.isa.specs.Decode.{decodeOf}
+
+-- which variant an instruction is
+abbrev pub variant : Instr → ℕ
+variant i = tagOf the-type i
+
+-- decode: 6 for a word that isn't in the instruction tables
+unfoldable pub decodeCallOf : ℕ → ℕ
+decodeCallOf w = cond (eqb (variant (decodeOf w)) (variant Refused)) 6 0

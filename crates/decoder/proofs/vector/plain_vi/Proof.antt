@@ -1,0 +1,42 @@
+-- `decoder::vector::plain_vi` meets its contract: a move, or a row of the table that has the form. Assumes nothing.
+use mathlib.Core.Path.{_≡_, _∙_}
+use mathlib.Core.List.{[], _∷_}
+use mathlib.Core.Logic.{⊎-elim}
+use native.Mathlib.Omega.{arith}
+use borrow.Author.Needs.{needs}
+use Rattle.isa.specs.Fields.{fieldsOf, funct6}
+use Rattle.isa.specs.Vector.{vectorTable, moves, fromI, plainOf}
+use Rattle.isa.specs.Kinds.{sourceOf, rowOf}
+use Rattle.isa.proofs.Forms.{form-in, form-out}
+use Rattle.decoder.proofs.vector.plain_vi.Statement.{statement}
+use Rattle.decoder.proofs.vector.plain_vi.Tie as tie
+
+pub plain-vi-spec : {M : Type 1} → statement M
+unfolding rowOf plainOf sourceOf
+plain-vi-spec =
+    tie.close
+    (tie.spec
+    (λ c κs. search needs)
+    (λ c κs. search needs)
+    (λ c. c .fixed .ensures (c .before .before .args .w) ∙ simp (c .before .match .keys1, c .before .before .pre))
+    (λ c. simp (c .match .keys2))
+    (λ c.
+    let p = c .before .before in
+    let f = fieldsOf (p .before .args .w) in
+    form-out f (funct6 f) (fromI f) (simp (p .before .pre)) (moves (fromI f)) (p .match .rest .0)
+    vectorTable [] 4 4 (omega arith) (omega arith) tt tt)
+    (λ c.
+    let p = c .before .before .before .before in
+    let f = fieldsOf (p .before .args .w) in
+    form-out f (funct6 f) (fromI f) (simp (p .before .pre)) (moves (fromI f)) (p .match .rest .0)
+    vectorTable [] 26 2 (omega arith) (omega arith) tt tt)
+    (λ c.
+    let p = c .before .before in
+    let f = fieldsOf (p .before .args .w) in
+    let e = p .match .rest in
+    let q : sourceOf f ≡ fromI f = simp (p .before .pre) in
+    let row = form-in f (funct6 f) (fromI f) q (moves (fromI f)) (e .0) vectorTable in
+    c .row .ensures (p .before .args .w)
+    ∙ ⊎-elim (λ t. row (23 ∷ 2 ∷ []) 0 4 (omega arith) (omega arith) e tt)
+    (⊎-elim (λ t. row (23 ∷ 2 ∷ []) 8 18 (omega arith) (omega arith) e tt)
+    (λ t. row [] 28 36 (omega arith) (omega arith) tt tt)) (c .before .if1 .came)))

@@ -1,0 +1,16 @@
+-- `decoder::vector::vector` meets its contract: vm is 1, or there is no kind. Assumes nothing.
+use borrow.Author.Needs.{needs}
+use borrow.Author.Tests.{ne-eqb}
+use Rattle.isa.specs.Vector.{vectorOf}
+use Rattle.isa.specs.Kinds.{rowOf}
+use Rattle.decoder.proofs.vector.vector.Statement.{statement}
+use Rattle.decoder.proofs.vector.vector.Tie as tie
+
+pub vector-spec : {M : Type 1} → statement M
+unfolding rowOf vectorOf
+vector-spec =
+    tie.close
+    (tie.spec
+    (λ c κs. search needs)
+    (λ c. simp (c .before .match .keys1) (c .operands .ensures))
+    (λ c. simp (ne-eqb _ _ (c .match .rest .1))))

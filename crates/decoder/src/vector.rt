@@ -1,0 +1,149 @@
+// The vector words' kinds, by funct3, then funct6.
+ghost use mathlib.Core.Path.{_≡_};
+ghost use Prim.Native.Nat.{ℕ};
+ghost use Rattle.isa.specs.declared.Instr.the-variants.{Refused};
+ghost use Rattle.isa.specs.Fields.{fieldsOf};
+ghost use Rattle.isa.specs.Table.{seek};
+ghost use Rattle.isa.specs.Vector.{vectorTable, multiplyTable, plainOf, multiplyOf, fromV, fromX, fromI, operandsOf, vectorOf};
+ghost use Rattle.isa.specs.Kinds.{vectorWord, instrOf};
+use crate::fixed;
+use isa::kinds;
+
+// The table's row, whatever forms it has.
+fn row(funct6: u32) -> u32
+    ensures { λ r. ⌜ ((w : ℕ) → instrOf r w ≡ seek (λ f. vectorWord (f .op) (fieldsOf w)) Refused funct6 vectorTable) ⌝ }
+{
+    match funct6 {
+        0b000000 => kinds::VADD,
+        0b000010 => kinds::VSUB,
+        0b000011 => kinds::VRSUB,
+        0b000100 => kinds::VMINU,
+        0b000101 => kinds::VMIN,
+        0b000110 => kinds::VMAXU,
+        0b000111 => kinds::VMAX,
+        0b001001 => kinds::VAND,
+        0b001010 => kinds::VOR,
+        0b001011 => kinds::VXOR,
+        0b100101 => kinds::VSLL,
+        0b101000 => kinds::VSRL,
+        0b101001 => kinds::VSRA,
+        0b011000 => kinds::VSEQ,
+        0b011001 => kinds::VSNE,
+        0b011010 => kinds::VSLTU,
+        0b011011 => kinds::VSLT,
+        0b011100 => kinds::VSLEU,
+        0b011101 => kinds::VSLE,
+        0b011110 => kinds::VSGTU,
+        0b011111 => kinds::VSGT,
+        _ => kinds::NONE,
+    }
+}
+
+// The M group's row.
+fn multiply_row(funct6: u32) -> u32
+    ensures { λ r. ⌜ ((w : ℕ) → instrOf r w ≡ seek (λ f. vectorWord (f .op) (fieldsOf w)) Refused funct6 multiplyTable) ⌝ }
+{
+    match funct6 {
+        0b100100 => kinds::VMULHU,
+        0b100101 => kinds::VMUL,
+        0b100110 => kinds::VMULHSU,
+        0b100111 => kinds::VMULH,
+        0b100000 => kinds::VDIVU,
+        0b100001 => kinds::VDIV,
+        0b100010 => kinds::VREMU,
+        0b100011 => kinds::VREM,
+        _ => kinds::NONE,
+    }
+}
+
+// No VV form: 000011, 011110 and 011111.
+fn plain_vv(w: u32) -> u32
+    requires { ⌜ fieldsOf w .funct3 ≡ 0b000 ⌝ }
+    ensures { λ r. ⌜ instrOf r w ≡ plainOf (fromV (fieldsOf w)) (fieldsOf w) ⌝ }
+{
+    let funct6 = w / 33554432 / 2;
+    match funct6 {
+        0b010111 => fixed(w / 1048576 % 32, 0, kinds::VMOVE),
+        0b000011 => kinds::NONE,
+        0b011110..=0b011111 => kinds::NONE,
+        _ => row(funct6),
+    }
+}
+
+// Every row of the table has the form VX.
+fn plain_vx(w: u32) -> u32
+    requires { ⌜ fieldsOf w .funct3 ≡ 0b100 ⌝ }
+    ensures { λ r. ⌜ instrOf r w ≡ plainOf (fromX (fieldsOf w)) (fieldsOf w) ⌝ }
+{
+    let funct6 = w / 33554432 / 2;
+    match funct6 {
+        0b010111 => fixed(w / 1048576 % 32, 0, kinds::VMOVE),
+        _ => row(funct6),
+    }
+}
+
+// No VI form: 000010, 000100 to 000111, 011010 and 011011.
+fn plain_vi(w: u32) -> u32
+    requires { ⌜ fieldsOf w .funct3 ≡ 0b011 ⌝ }
+    ensures { λ r. ⌜ instrOf r w ≡ plainOf (fromI (fieldsOf w)) (fieldsOf w) ⌝ }
+{
+    let funct6 = w / 33554432 / 2;
+    match funct6 {
+        0b010111 => fixed(w / 1048576 % 32, 0, kinds::VMOVE),
+        0b000010 => kinds::NONE,
+        0b000100..=0b000111 | 0b011010..=0b011011 => kinds::NONE,
+        _ => row(funct6),
+    }
+}
+
+fn multiply_vv(w: u32) -> u32
+    requires { ⌜ fieldsOf w .funct3 ≡ 0b010 ⌝ }
+    ensures { λ r. ⌜ instrOf r w ≡ multiplyOf (fromV (fieldsOf w)) (fieldsOf w) ⌝ }
+{
+    let funct6 = w / 33554432 / 2;
+    match funct6 {
+        0b010000 => fixed(w / 32768 % 32, 0, kinds::VMOVE_XS),
+        0b010100 => fixed(
+            w / 1048576 % 32,
+            0,
+            fixed(w / 32768 % 32, 0b10001, kinds::VID),
+        ),
+        _ => multiply_row(funct6),
+    }
+}
+
+fn multiply_vx(w: u32) -> u32
+    requires { ⌜ fieldsOf w .funct3 ≡ 0b110 ⌝ }
+    ensures { λ r. ⌜ instrOf r w ≡ multiplyOf (fromX (fieldsOf w)) (fieldsOf w) ⌝ }
+{
+    let funct6 = w / 33554432 / 2;
+    match funct6 {
+        0b010000 => fixed(w / 1048576 % 32, 0, kinds::VMOVE_SX),
+        _ => multiply_row(funct6),
+    }
+}
+
+fn operands(w: u32) -> u32
+    ensures { λ r. ⌜ instrOf r w ≡ operandsOf (fieldsOf w) ⌝ }
+{
+    let funct3 = w / 4096 % 8;
+    match funct3 {
+        0b000 => plain_vv(w),
+        0b011 => plain_vi(w),
+        0b100 => plain_vx(w),
+        0b010 => multiply_vv(w),
+        0b110 => multiply_vx(w),
+        _ => kinds::NONE,
+    }
+}
+
+// vm is 1.
+pub fn vector(w: u32) -> u32
+    ensures { λ r. ⌜ instrOf r w ≡ vectorOf (fieldsOf w) ⌝ }
+{
+    let vm = w / 33554432 % 2;
+    match vm {
+        1 => operands(w),
+        _ => kinds::NONE,
+    }
+}

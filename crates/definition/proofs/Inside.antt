@@ -1,0 +1,71 @@
+-- Where no test of a store holds, the bytes that it overwrites lie inside the data memory.
+use Prim.Native.Nat.{ℕ, _+_, _≤_, _<_}
+use mathlib.Core.Path.{_≡_, refl, sym}
+use mathlib.Core.Bool.{Bool, true}
+use mathlib.Core.List.{List, []}
+use native.Mathlib.Omega.{arith}
+use lib.ListN.{length}
+use Rattle.answer.specs.Rows.{first}
+use Rattle.answer.proofs.Rows.{passed}
+use Rattle.isa.specs.declared.Instr.{Instr}
+use Rattle.isa.specs.declared.Instr.the-variants as I
+use Rattle.memory.specs.Memory.{widthOf, insideOf, indexIn}
+use Rattle.memory.specs.LaneAccess.{allInside}
+use Rattle.memory.proofs.Access.{inside-true, all-inside-at}
+use Rattle.definition.specs.State.{State, fixedOf, active, memoryOf, scalarAt, laneAt, instrAt}
+use Rattle.definition.specs.Refuse.{refusalsOf}
+use Rattle.definition.specs.Step.{stepOf}
+use Rattle.definition.proofs.Target.{Target, nothing, scalar, split, lanes, bytes, targetOf}
+use Rattle.definition.proofs.Sound.{step-clear}
+
+abbrev pub Lies : State → Target → Type 0
+Lies m nothing = Unit {0}
+Lies m (scalar r) = Unit {0}
+Lies m (split j) = Unit {0}
+Lies m (lanes on r) = Unit {0}
+Lies m (bytes n on width place) = (l : ℕ) → l < n → on l ≡ true → place l + width ≤ length (m .bytes)
+
+module _ (m : State) where
+  abbrev fits : ℕ → ℕ → Bool
+  fits w a = insideOf (memoryOf m) w a
+
+  abbrev allFit : ℕ → (ℕ → ℕ) → Bool
+  allFit w at = allInside (fixedOf m .numt) (active m) (memoryOf m) w at
+
+  one : (w a : ℕ) → fits w a ≡ true → indexIn (memoryOf m) a + w ≤ length (m .bytes)
+  one w a t = omega (arith, inside-true (memoryOf m) w a t)
+
+  each : (w : ℕ) (at : ℕ → ℕ) → allFit w at ≡ true → (l : ℕ) → l < fixedOf m .numt → active m l ≡ true → indexIn (memoryOf m) (at l) + w ≤ length (m .bytes)
+  each w at e l b t = one w (at l) (all-inside-at (fixedOf m .numt) (active m) (memoryOf m) w at (sym e) l b t)
+
+  pub lies : (i : Instr) → first (refusalsOf i m) ≡ 0 → Lies m (targetOf i m)
+  unfolding targetOf refusalsOf
+  lies I.Refused h = tt
+  lies (I.Lui r n) h = tt
+  lies (I.Auipc r n) h = tt
+  lies (I.Jal r n) h = tt
+  lies (I.Jalr r a n) h = tt
+  lies (I.Branch c a b n) h = tt
+  lies (I.Load k r a n) h = tt
+  lies (I.Store k a b n) h = λ l c t. one (widthOf k) (scalarAt a n m) (passed [] [] 9 (fits (widthOf k) (scalarAt a n m)) refl h)
+  lies (I.OpImm o r a n) h = tt
+  lies (I.OpReg o r a b) h = tt
+  lies (I.Fence r a n) h = tt
+  lies (I.Csr o r a n) h = tt
+  lies (I.CsrImm o r i n) h = tt
+  lies (I.Vector o a) h = tt
+  lies (I.VMove r s) h = tt
+  lies (I.VMoveXS r b) h = tt
+  lies (I.VMoveSX r a) h = tt
+  lies (I.Vid r) h = tt
+  lies (I.VBranch c a b n) h = tt
+  lies I.Join h = tt
+  lies (I.SetRpc r a n) h = tt
+  lies I.EndPrg h = tt
+  lies (I.Barrier n) h = tt
+  lies (I.VLoad s k r a n) h = tt
+  lies (I.VStore s k a b n) h = each (widthOf k) (laneAt s a n m) (passed [] [] 9 (allFit (widthOf k) (laneAt s a n m)) refl h)
+
+-- A taken step overwrites bytes of the data memory alone.
+pub step-inside : (k : List ℕ) (m : State) → stepOf k m .code ≡ 0 → Lies m (targetOf (instrAt k m) m)
+step-inside k m z = lies m (instrAt k m) (step-clear k m z .rest)

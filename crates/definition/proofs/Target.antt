@@ -1,0 +1,294 @@
+-- What an instruction may overwrite besides the words that every instruction may (PC, mask, depth, RPC, PRINT, ended, waiting): one place, named here.
+use Prim.Native.Nat.{ℕ, _+_, _-_, _≤_, _<_}
+use mathlib.Core.Path.{_≡_, refl, _∙_, ap}
+use mathlib.Core.Bool.{Bool, true}
+use mathlib.Core.List.{List}
+use native.Mathlib.Omega.{arith}
+use lib.Dec.{eqb, lit≤}
+use lib.ListN.{length, getD, set, length-set}
+use lib.Seq.{getD-set-other}
+use Rattle.answer.specs.Rows.{first}
+use Rattle.word.specs.Word.{holdsOf}
+use Rattle.isa.specs.declared.Instr.{Instr}
+use Rattle.isa.specs.declared.Instr.the-variants as I
+use Rattle.isa.specs.declared.CsrOp.{CsrOp}
+use Rattle.isa.specs.declared.StoreOp.{StoreOp}
+use Rattle.isa.specs.declared.StoreOp.the-variants as S
+use Rattle.isa.specs.declared.XReg.{XReg}
+use Rattle.isa.specs.declared.VReg.{VReg}
+use Rattle.lanes.specs.Lanes.{lanesMax, slotOf}
+use Rattle.lanes.specs.Laws.{write-length, write-other}
+use Rattle.memory.specs.Memory.{widthOf, indexIn, storeOf}
+use Rattle.memory.specs.LaneAccess.{storeLanes}
+use Rattle.memory.proofs.Laws.{store-length, store-unwritten, lanes-length, lanes-unwritten}
+use Rattle.warp.specs.declared.Split.{Split}
+use Rattle.warp.specs.declared.Warp.{Warp}
+use Rattle.warp.specs.Warp.{zeroSplit, setX, writeX, next}
+use Rattle.warp.specs.Splits.{openOf, parted, lastSplit, joinOf, setRpcOf}
+use Rattle.warp.specs.SplitLaws.{by-cond}
+use Rattle.warp.specs.Csr.{isPrint, writesOf, csrAt, csrDone}
+use Rattle.definition.specs.State.{State, fixedOf, active, xOf, memoryOf, scalarAt, laneAt, instrAt}
+use Rattle.definition.specs.Refuse.{testsOf}
+use Rattle.definition.specs.Exec.{goes, writes, stores, effect, effectOf}
+use Rattle.definition.specs.Step.{stepOf}
+
+-- nothing; a scalar register; a split record; a register's words in the lanes that `on` picks; of each lane l below n that `on` picks, `width` bytes from `place l` on
+pub data Target : Type 0 where
+  nothing : Target
+  scalar : XReg → Target
+  split : ℕ → Target
+  lanes : (ℕ → Bool) → VReg → Target
+  bytes : ℕ → (ℕ → Bool) → ℕ → (ℕ → ℕ) → Target
+
+unfoldable pub targetOf : Instr → State → Target
+targetOf I.Refused m = nothing
+targetOf (I.Lui r n) m = scalar r
+targetOf (I.Auipc r n) m = scalar r
+targetOf (I.Jal r n) m = scalar r
+targetOf (I.Jalr r a n) m = scalar r
+targetOf (I.Branch c a b n) m = nothing
+targetOf (I.Load k r a n) m = scalar r
+targetOf (I.Store k a b n) m = bytes 1 (λ l. true) (widthOf k) (λ l. indexIn (memoryOf m) (scalarAt a n m))
+targetOf (I.OpImm o r a n) m = scalar r
+targetOf (I.OpReg o r a b) m = scalar r
+targetOf (I.Fence r a n) m = nothing
+targetOf (I.Csr o r a n) m = scalar r
+targetOf (I.CsrImm o r i n) m = scalar r
+targetOf (I.Vector o a) m = lanes (active m) (a .vd)
+targetOf (I.VMove r s) m = lanes (active m) r
+targetOf (I.VMoveXS r b) m = scalar r
+targetOf (I.VMoveSX r a) m = lanes (active m) r
+targetOf (I.Vid r) m = lanes (active m) r
+targetOf (I.VBranch c a b n) m = split (m .warp .depth)
+targetOf I.Join m = split (m .warp .depth - 1)
+targetOf (I.SetRpc r a n) m = scalar r
+targetOf I.EndPrg m = nothing
+targetOf (I.Barrier n) m = nothing
+targetOf (I.VLoad s k r a n) m = lanes (active m) r
+targetOf (I.VStore s k a b n) m = bytes (fixedOf m .numt) (active m) (widthOf k) (λ l. indexIn (memoryOf m) (laneAt s a n m l))
+
+-- the target spares scalar register i, split record i, word i of the vector file, byte i of the data
+abbrev pub SparesX : Target → ℕ → Type 0
+SparesX (scalar r) i = i ≡ r .0 → ⊥
+SparesX nothing i = Unit {0}
+SparesX (split j) i = Unit {0}
+SparesX (lanes on r) i = Unit {0}
+SparesX (bytes n on width place) i = Unit {0}
+
+abbrev pub SparesSplit : Target → ℕ → Type 0
+SparesSplit (split j) i = i ≡ j → ⊥
+SparesSplit nothing i = Unit {0}
+SparesSplit (scalar r) i = Unit {0}
+SparesSplit (lanes on r) i = Unit {0}
+SparesSplit (bytes n on width place) i = Unit {0}
+
+abbrev pub SparesWord : State → Target → ℕ → Type 0
+SparesWord m (lanes on r) i = (l : ℕ) → l < fixedOf m .numt → on l ≡ true → i ≡ slotOf r l → ⊥
+SparesWord m nothing i = Unit {0}
+SparesWord m (scalar r) i = Unit {0}
+SparesWord m (split j) i = Unit {0}
+SparesWord m (bytes n on width place) i = Unit {0}
+
+abbrev pub SparesByte : Target → ℕ → Type 0
+SparesByte (bytes n on width place) i = (l : ℕ) → l < n → on l ≡ true → place l ≤ i → i < place l + width → ⊥
+SparesByte nothing i = Unit {0}
+SparesByte (scalar r) i = Unit {0}
+SparesByte (split j) i = Unit {0}
+SparesByte (lanes on r) i = Unit {0}
+
+-- from m to n nothing outside the target t changes, and no list its length
+pub record Within (m : State) (t : Target) (n : State) : Type 0 where
+  pub x : (i : ℕ) → SparesX t i → getD (n .warp .x) i 0 ≡ getD (m .warp .x) i 0
+  pub splits : (i : ℕ) → SparesSplit t i → getD (n .warp .splits) i zeroSplit ≡ getD (m .warp .splits) i zeroSplit
+  pub vector : (i : ℕ) → SparesWord m t i → getD (n .vector) i 0 ≡ getD (m .vector) i 0
+  pub memory : (i : ℕ) → SparesByte t i → getD (n .bytes) i 0 ≡ getD (m .bytes) i 0
+  pub fixed : n .warp .fixed ≡ m .warp .fixed
+  pub scalars : length (n .warp .x) ≡ length (m .warp .x)
+  pub records : length (n .warp .splits) ≡ length (m .warp .splits)
+  pub words : length (n .vector) ≡ length (m .vector)
+  pub size : length (n .bytes) ≡ length (m .bytes)
+
+put-other : (r : XReg) (y : ℕ) (x : List ℕ) (i : ℕ) → (i ≡ r .0 → ⊥) → getD (setX r y x) i 0 ≡ getD x i 0
+put-other r y x i n = by-cond (λ (l : List ℕ). getD l i 0 ≡ getD x i 0) (eqb (r .0) 0) _ _ (λ e. refl) (λ e. getD-set-other x (r .0) i y 0 n)
+
+put-length : (r : XReg) (y : ℕ) (x : List ℕ) → length (setX r y x) ≡ length x
+put-length r y x = by-cond (λ (l : List ℕ). length l ≡ length x) (eqb (r .0) 0) _ _ (λ e. refl) (λ e. length-set x (r .0) y)
+
+module _ (m : State) where
+  -- a warp that has the old registers and records
+  leaves : (t : Target) (u : Warp) → u .x ≡ m .warp .x → u .splits ≡ m .warp .splits → u .fixed ≡ m .warp .fixed → Within m t (effect (goes u) m)
+  leaves t u p q f =
+      record {
+        x = λ i h. ap (λ (l : List ℕ). getD l i 0) p;
+        splits = λ i h. ap (λ (l : List Split). getD l i zeroSplit) q;
+        vector = λ i h. refl;
+        memory = λ i h. refl;
+        fixed = f;
+        scalars = ap length p;
+        records = ap length q;
+        words = refl;
+        size = refl;
+      }
+
+  puts : (r : XReg) (y : ℕ) (u : Warp) → u .x ≡ setX r y (m .warp .x) → u .splits ≡ m .warp .splits → u .fixed ≡ m .warp .fixed → Within m (scalar r) (effect (goes u) m)
+  puts r y u p q f =
+      record {
+        x = λ i h. ap (λ (l : List ℕ). getD l i 0) p ∙ put-other r y (m .warp .x) i h;
+        splits = λ i h. ap (λ (l : List Split). getD l i zeroSplit) q;
+        vector = λ i h. refl;
+        memory = λ i h. refl;
+        fixed = f;
+        scalars = ap length p ∙ put-length r y (m .warp .x);
+        records = ap length q;
+        words = refl;
+        size = refl;
+      }
+
+  records-at : (j : ℕ) (s : Split) (u : Warp) → u .x ≡ m .warp .x → u .splits ≡ set (m .warp .splits) j s → u .fixed ≡ m .warp .fixed → Within m (split j) (effect (goes u) m)
+  records-at j s u p q f =
+      record {
+        x = λ i h. ap (λ (l : List ℕ). getD l i 0) p;
+        splits = λ i h. ap (λ (l : List Split). getD l i zeroSplit) q ∙ getD-set-other (m .warp .splits) j i s zeroSplit h;
+        vector = λ i h. refl;
+        memory = λ i h. refl;
+        fixed = f;
+        scalars = ap length p;
+        records = ap length q ∙ length-set (m .warp .splits) j s;
+        words = refl;
+        size = refl;
+      }
+
+  fills : (on : ℕ → Bool) (r : VReg) (f : ℕ → ℕ) → Within m (lanes on r) (effect (writes on r f) m)
+  fills on r f =
+      record {
+        x = λ i h. refl;
+        splits = λ i h. refl;
+        vector = λ i h. write-other on r f (m .vector) (fixedOf m .numt) i h;
+        memory = λ i h. refl;
+        fixed = refl;
+        scalars = refl;
+        records = refl;
+        words = write-length on r f (m .vector) (fixedOf m .numt);
+        size = refl;
+      }
+
+  kept : (t : Target) (e : List ℕ) → ((i : ℕ) → SparesByte t i → getD e i 0 ≡ getD (m .bytes) i 0) → length e ≡ length (m .bytes) → Within m t (effect (stores e) m)
+  kept t e o s =
+      record { x = λ i h. refl; splits = λ i h. refl; vector = λ i h. refl; memory = o; fixed = refl; scalars = refl; records = refl; words = refl; size = s }
+
+  stored : (k : StoreOp) (a y : ℕ) → Within m (bytes 1 (λ l. true) (widthOf k) (λ l. indexIn (memoryOf m) a)) (effect (stores (storeOf k a y (memoryOf m))) m)
+  stored k a y = kept _ _ (λ i h. store-unwritten k a y (memoryOf m) i (h 0 (omega arith) refl)) (store-length k a y (memoryOf m))
+
+  lane-stored : (on : ℕ → Bool) (k : StoreOp) (at y : ℕ → ℕ)
+      → Within m (bytes (fixedOf m .numt) on (widthOf k) (λ l. indexIn (memoryOf m) (at l))) (effect (stores (storeLanes (fixedOf m .numt) on k at y (memoryOf m))) m)
+  lane-stored on k at y =
+      kept _ _ (λ i h. lanes-unwritten (fixedOf m .numt) on k at y (memoryOf m) i h) (lanes-length (fixedOf m .numt) on k at y (memoryOf m))
+
+  abbrev G : Target → Warp → Type 0
+  G t u = Within m t (effect (goes u) m)
+
+  csr : (o : CsrOp) (n : ℕ) (r : XReg) (rs1 y : ℕ) → G (scalar r) (csrDone o n r rs1 y (m .warp))
+  unfolding csrDone
+  csr o n r rs1 y =
+      let old : ℕ = csrAt n (m .warp) in
+      by-cond (λ (u : Warp). G (scalar r) (next (writeX r old u))) (writesOf o rs1) _ _
+      (λ e. by-cond (λ (u : Warp). G (scalar r) (next (writeX r old u))) (isPrint n) _ _ (λ p. puts r old _ refl refl refl) (λ p. puts r old _ refl refl refl))
+      (λ e. puts r old _ refl refl refl)
+
+  vbranch : (e p : ℕ) → G (split (m .warp .depth)) (parted e p (m .warp))
+  unfolding parted openOf
+  vbranch e p =
+      by-cond (G (split (m .warp .depth))) (eqb e 0) _ _ (λ z. leaves _ _ refl refl refl)
+      (λ z. by-cond (G (split (m .warp .depth))) (eqb e (m .warp .mask)) _ _ (λ q. leaves _ _ refl refl refl) (λ q. records-at _ _ _ refl refl refl))
+
+  joined : G (split (m .warp .depth - 1)) (joinOf (m .warp))
+  unfolding joinOf
+  joined =
+      by-cond (G (split (m .warp .depth - 1))) (eqb (m .warp .depth) 0) _ _ (λ z. leaves _ _ refl refl refl)
+      (λ z. by-cond (G (split (m .warp .depth - 1))) (eqb (m .warp .pc) (lastSplit (m .warp) .rpc)) _ _
+      (λ q. by-cond (G (split (m .warp .depth - 1))) (lastSplit (m .warp) .phasetwo) _ _ (λ s. records-at _ _ _ refl refl refl) (λ s. records-at _ _ _ refl refl refl))
+      (λ q. leaves _ _ refl refl refl))
+
+  setrpc : (r a : XReg) (n : ℕ) → G (scalar r) (setRpcOf r a n (m .warp))
+  unfolding setRpcOf
+  setrpc r a n = puts r _ _ refl refl refl
+
+  -- Whatever the state, an instruction changes nothing outside its target.
+  pub within : (i : Instr) → Within m (targetOf i m) (effect (effectOf i m) m)
+  unfolding targetOf effectOf
+  within I.Refused = leaves _ _ refl refl refl
+  within (I.Lui r n) = puts r _ _ refl refl refl
+  within (I.Auipc r n) = puts r _ _ refl refl refl
+  within (I.Jal r n) = puts r _ _ refl refl refl
+  within (I.Jalr r a n) = puts r _ _ refl refl refl
+  within (I.Branch c a b n) = by-cond (G nothing) (holdsOf c (xOf a m) (xOf b m)) _ _ (λ t. leaves _ _ refl refl refl) (λ t. leaves _ _ refl refl refl)
+  within (I.Load k r a n) = puts r _ _ refl refl refl
+  within (I.Store k a b n) = stored k _ _
+  within (I.OpImm o r a n) = puts r _ _ refl refl refl
+  within (I.OpReg o r a b) = puts r _ _ refl refl refl
+  within (I.Fence r a n) = leaves _ _ refl refl refl
+  within (I.Csr o r a n) = csr o n r (a .0) _
+  within (I.CsrImm o r i n) = csr o n r i i
+  within (I.Vector o a) = fills (active m) (a .vd) _
+  within (I.VMove r s) = fills (active m) r _
+  within (I.VMoveXS r b) = puts r _ _ refl refl refl
+  within (I.VMoveSX r a) = fills (active m) r _
+  within (I.Vid r) = fills (active m) r _
+  within (I.VBranch c a b n) = vbranch _ _
+  within I.Join = joined
+  within (I.SetRpc r a n) = setrpc r a n
+  within I.EndPrg = leaves _ _ refl refl refl
+  within (I.Barrier n) = leaves _ _ refl refl refl
+  within (I.VLoad s k r a n) = fills (active m) r _
+  within (I.VStore s k a b n) = lane-stored (active m) k _ _
+
+  same : (t : Target) → Within m t m
+  same t = leaves t (m .warp) refl refl refl
+
+-- A step, refused or not, changes nothing outside the target of the instruction at the PC.
+pub step-within : (k : List ℕ) (m : State) → Within m (targetOf (instrAt k m) m) (stepOf k m .left)
+unfolding stepOf
+step-within k m = by-cond (Within m (targetOf (instrAt k m) m)) (eqb (first (testsOf k m)) 0) _ _ (λ z. within m (instrAt k m)) (λ z. same m _)
+
+-- ---- how much that is
+
+-- at most a store of four bytes by each of the lanes
+abbrev pub Small : Target → Type 0
+Small nothing = Unit {0}
+Small (scalar r) = Unit {0}
+Small (split j) = Unit {0}
+Small (lanes on r) = Unit {0}
+Small (bytes n on width place) = (n ≤ lanesMax) × (width ≤ 4)
+
+four : (k : StoreOp) → widthOf k ≤ 4
+four S.B = lit≤ tt
+four S.H = lit≤ tt
+four S.W = lit≤ tt
+
+pub target-small : (m : State) → fixedOf m .numt ≤ lanesMax → (i : Instr) → Small (targetOf i m)
+unfolding targetOf
+target-small m h I.Refused = tt
+target-small m h (I.Lui r n) = tt
+target-small m h (I.Auipc r n) = tt
+target-small m h (I.Jal r n) = tt
+target-small m h (I.Jalr r a n) = tt
+target-small m h (I.Branch c a b n) = tt
+target-small m h (I.Load k r a n) = tt
+target-small m h (I.Store k a b n) = (lit≤ tt, four k)
+target-small m h (I.OpImm o r a n) = tt
+target-small m h (I.OpReg o r a b) = tt
+target-small m h (I.Fence r a n) = tt
+target-small m h (I.Csr o r a n) = tt
+target-small m h (I.CsrImm o r i n) = tt
+target-small m h (I.Vector o a) = tt
+target-small m h (I.VMove r s) = tt
+target-small m h (I.VMoveXS r b) = tt
+target-small m h (I.VMoveSX r a) = tt
+target-small m h (I.Vid r) = tt
+target-small m h (I.VBranch c a b n) = tt
+target-small m h I.Join = tt
+target-small m h (I.SetRpc r a n) = tt
+target-small m h I.EndPrg = tt
+target-small m h (I.Barrier n) = tt
+target-small m h (I.VLoad s k r a n) = tt
+target-small m h (I.VStore s k a b n) = (h, four k)

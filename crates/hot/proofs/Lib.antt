@@ -1,2 +1,0 @@
-pub mod FlatSplits
-pub mod Laws

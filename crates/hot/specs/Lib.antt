@@ -1,2 +1,0 @@
-pub mod Hot
-pub mod HotLaws

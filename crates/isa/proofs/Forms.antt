@@ -1,0 +1,59 @@
+-- Laws of the vector tables' forms, by what a `match` on funct6 tells.
+use Prim.Native.Nat.{ℕ, _+_, _<_, _≤_}
+use mathlib.Core.Path.{_≡_, refl, _∙_}
+use mathlib.Core.List.{List, [], _∷_, _++_}
+use mathlib.Core.Bool.{Bool, true, false, cond, not}
+use lib.Dec.{T, eqb}
+use Rattle.answer.specs.Rows.{Row}
+use Rattle.answer.proofs.Matches.{NoneOf, each, in-range}
+use Rattle.isa.specs.declared.Source.{Source}
+use Rattle.isa.specs.declared.Instr.{Instr}
+use Rattle.isa.specs.declared.Instr.the-variants.{Refused}
+use Rattle.isa.specs.Fields.{Fields}
+use Rattle.isa.specs.Table.{seek, Words, on, wordAt, wordsOf}
+use Rattle.isa.specs.Vector.{Formed, has, vectorAs}
+use Rattle.isa.specs.Kinds.{sourceOf, vectorWord}
+use Rattle.isa.specs.Laws.{NoneFrom, past}
+
+module _ (c : Fields) (k : ℕ) where
+  -- a row that has the form is the vector word of its op
+  formed-row :
+      (b form rest : Bool) (i m n : Instr) → T (cond b form rest) → (T rest → m ≡ n) → cond b i m ≡ cond b (cond form i Refused) n
+  formed-row true true rest i m n t e = refl
+  formed-row true false rest i m n t e = absurd t
+  formed-row false form rest i m n t e = e t
+
+  formed :
+      (t : List (Row Formed)) → T (seek (has (sourceOf c)) true k t)
+      → seek (λ f. vectorWord (f .op) c) Refused k t ≡ wordAt c k (wordsOf (vectorAs (sourceOf c)) t)
+  formed [] q = refl
+  formed (r ∷ rs) q = formed-row (eqb k (r .code)) (has (sourceOf c) (r .is)) _ _ _ _ q (formed rs)
+
+  unformed-row :
+      (b form rest : Bool) (i n : Instr) → T (not (cond b form rest)) → (T (not rest) → Refused ≡ n)
+      → Refused ≡ cond b (cond form i Refused) n
+  unformed-row true true rest i n t e = absurd t
+  unformed-row true false rest i n t e = refl
+  unformed-row false form rest i n t e = e t
+
+  unformed :
+      (t : List (Row Formed)) → T (not (seek (has (sourceOf c)) false k t))
+      → Refused ≡ wordAt c k (wordsOf (vectorAs (sourceOf c)) t)
+  unformed [] q = refl
+  unformed (r ∷ rs) q = unformed-row (eqb k (r .code)) (has (sourceOf c) (r .is)) _ _ _ q (unformed rs)
+
+  -- every row of the range has the form of the last operand, or none has it; u are the words before the table's
+  module _
+      (s : Source) (q : sourceOf c ≡ s) (u : Words) (e : NoneFrom (Unit {0}) k u) (t : List (Row Formed)) (xs : List ℕ) (lo n : ℕ)
+      (a : lo ≤ k) (b : k < lo + n) (h : NoneOf (Unit {0}) k xs) where
+    pub form-in :
+        T (each (λ k. seek (has s) true k t) xs lo n)
+        → seek (λ f. vectorWord (f .op) c) Refused k t ≡ wordAt c k (u ++ wordsOf (vectorAs s) t)
+    form-in p =
+        rw (← q) (formed t (rw (← q) at (in-range (λ k. seek (has s) true k t) xs lo n k p a b h)))
+        ∙ past (on c) Refused k u (wordsOf (vectorAs s) t) e
+
+    pub form-out : T (each (λ k. not (seek (has s) false k t)) xs lo n) → Refused ≡ wordAt c k (u ++ wordsOf (vectorAs s) t)
+    form-out p =
+        rw (← q) (unformed t (rw (← q) at (in-range (λ k. not (seek (has s) false k t)) xs lo n k p a b h)))
+        ∙ past (on c) Refused k u (wordsOf (vectorAs s) t) e

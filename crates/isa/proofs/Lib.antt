@@ -1,0 +1,4 @@
+pub mod Tables
+pub mod Immediates
+pub mod Forms
+pub mod Words

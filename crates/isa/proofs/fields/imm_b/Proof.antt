@@ -1,0 +1,23 @@
+-- `isa::fields::imm_b` meets its contract: the same sum of the same fields. Assumes nothing.
+use mathlib.Core.Path.{refl}
+use native.Mathlib.Omega.{arith}
+use Rattle.isa.specs.Fields.{fieldsOf}
+use Rattle.isa.specs.Decoded.{small}
+use Rattle.isa.proofs.Immediates.{immB-small}
+use borrow.Author.Needs.{needs}
+use Rattle.isa.proofs.fields.imm_b.Statement.{statement}
+use Rattle.isa.proofs.fields.imm_b.Tie as tie
+
+pub imm-b-spec : {M : Type 1} → statement M
+imm-b-spec =
+    tie.close
+    (tie.spec
+    (λ c. search needs)
+    (λ c. search needs)
+    (λ c. search needs)
+    (λ c. search needs)
+    (λ c. search needs)
+    (λ c. search needs)
+    (λ c. search needs)
+    (λ c. search needs)
+    (λ c. (refl, immB-small (fieldsOf (c .args .w)) (small (c .args .w)) (omega arith))))

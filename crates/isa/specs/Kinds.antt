@@ -1,0 +1,103 @@
+-- A word's instruction by its kind: one row a kind, made of the word's fields. Of every kind and every word: a kind with no row is Refused.
+use Prim.Native.Nat.{ℕ, _%_}
+use mathlib.Core.List.{[], _∷_, _++_}
+use mathlib.Core.Bool.{cond}
+use lib.Dec.{leb, ltb}
+use Rattle.answer.specs.Rows.{_⇒_}
+use Rattle.word.specs.declared.Op.{Op}
+use Rattle.word.specs.declared.Op.the-variants as O
+use Rattle.word.specs.declared.Cond.{Cond}
+use Rattle.word.specs.declared.Cond.the-variants as C
+use Rattle.isa.specs.declared.Source.{Source}
+use Rattle.isa.specs.declared.LoadOp.{LoadOp}
+use Rattle.isa.specs.declared.LoadOp.the-variants as L
+use Rattle.isa.specs.declared.StoreOp.{StoreOp}
+use Rattle.isa.specs.declared.StoreOp.the-variants as S
+use Rattle.isa.specs.declared.CsrOp.{CsrOp}
+use Rattle.isa.specs.declared.CsrOp.the-variants as R
+use Rattle.isa.specs.declared.Instr.{Instr}
+use Rattle.isa.specs.declared.Instr.the-variants as I
+use Rattle.isa.specs.Fields.{Fields, x, v, fieldsOf, immI}
+use Rattle.isa.specs.Table.{pick, Words, wordAt}
+use Rattle.isa.specs.Scalar.{luiOf, auipcOf, jalOf, conditions, branchAs, loads, loadAs, stores, storeAs, immediateAs, shiftAs, opAs, csrs, csrAs, csrImmediates, csrImmAs}
+use Rattle.isa.specs.Vector.{fromV, fromX, fromI}
+use Rattle.isa.specs.Ventus.{vbranchAs, setRpcAs, vstores, vloadAs, vstoreAs, ploadAs, pstoreAs}
+use Rattle.isa.specs.Number.{opAt}
+
+-- what funct3 says within a kind; the last row where it says nothing
+unfoldable pub condOf : Fields → Cond
+condOf c = pick C.Geu (c .funct3) conditions
+
+unfoldable pub loadOpOf : Fields → LoadOp
+loadOpOf c = pick L.Hu (c .funct3) loads
+
+unfoldable pub storeOpOf : Fields → StoreOp
+storeOpOf c = pick S.W (c .funct3) stores
+
+unfoldable pub laneStoreOpOf : Fields → StoreOp
+laneStoreOpOf c = pick S.W (c .funct3) vstores
+
+-- a CSR word: below 100 its operand is a register, else rs1 itself
+unfoldable pub csrOpOf : Fields → CsrOp
+csrOpOf c = cond (ltb (c .funct3) 0b100) (pick R.Rc (c .funct3) csrs) (pick R.Rc (c .funct3) csrImmediates)
+
+unfoldable pub csrWordOf : Fields → Instr
+csrWordOf c = cond (ltb (c .funct3) 0b100) (csrAs (csrOpOf c) c) (csrImmAs (csrOpOf c) c)
+
+-- a vector word's last operand: VV 000 and 010, VI 011, else VX
+unfoldable pub sourceOf : Fields → Source
+sourceOf c = pick (fromX c) (c .funct3) (0b000 ⇒ fromV c ∷ 0b010 ⇒ fromV c ∷ 0b011 ⇒ fromI c ∷ [])
+
+abbrev pub vectorWord : Op → Fields → Instr
+vectorWord o c = I.Vector o (record { vd = v (c .rd); vs2 = v (c .rs2); src = sourceOf c })
+
+-- the numbers are those of src/kinds.rt
+abbrev pub scalarGroups : Words
+scalarGroups =
+    1 ⇒ luiOf ∷ 2 ⇒ auipcOf ∷ 3 ⇒ jalOf ∷ 4 ⇒ (λ c. I.Jalr (x (c .rd)) (x (c .rs1)) (immI c))
+    ∷ 5 ⇒ (λ c. branchAs (condOf c) c) ∷ 6 ⇒ (λ c. loadAs (loadOpOf c) c) ∷ 7 ⇒ (λ c. storeAs (storeOpOf c) c)
+    ∷ 8 ⇒ (λ c. I.Fence (c .rd) (c .rs1) (immI c)) ∷ 9 ⇒ csrWordOf ∷ []
+
+abbrev pub laneGroups : Words
+laneGroups =
+    10 ⇒ (λ c. vbranchAs (condOf c) c) ∷ 11 ⇒ setRpcAs
+    ∷ 12 ⇒ (λ c. vloadAs (loadOpOf c) c) ∷ 13 ⇒ (λ c. vstoreAs (laneStoreOpOf c) c)
+    ∷ 14 ⇒ (λ c. ploadAs (loadOpOf c) c) ∷ 15 ⇒ (λ c. pstoreAs (laneStoreOpOf c) c)
+    ∷ 43 ⇒ (λ c. I.Join) ∷ 44 ⇒ (λ c. I.EndPrg) ∷ 45 ⇒ (λ c. I.Barrier (c .rs1))
+    ∷ 46 ⇒ (λ c. I.VMoveXS (x (c .rd)) (v (c .rs2))) ∷ 47 ⇒ (λ c. I.VMoveSX (v (c .rd)) (x (c .rs1)))
+    ∷ 48 ⇒ (λ c. I.Vid (v (c .rd))) ∷ 49 ⇒ (λ c. I.VMove (v (c .rd)) (sourceOf c)) ∷ []
+
+abbrev pub groups : Words
+groups = scalarGroups ++ laneGroups
+
+abbrev pub ofSums : Words
+ofSums =
+    16 ⇒ opAs O.Add ∷ 17 ⇒ opAs O.Sub ∷ 18 ⇒ opAs O.Sll ∷ 19 ⇒ opAs O.Srl ∷ 20 ⇒ opAs O.Sra ∷ 21 ⇒ opAs O.Slt
+    ∷ 22 ⇒ opAs O.Sltu ∷ 23 ⇒ opAs O.And ∷ 24 ⇒ opAs O.Or ∷ 25 ⇒ opAs O.Xor ∷ []
+
+abbrev pub ofProducts : Words
+ofProducts =
+    26 ⇒ opAs O.Mul ∷ 27 ⇒ opAs O.Mulh ∷ 28 ⇒ opAs O.Mulhsu ∷ 29 ⇒ opAs O.Mulhu ∷ 30 ⇒ opAs O.Div ∷ 31 ⇒ opAs O.Divu
+    ∷ 32 ⇒ opAs O.Rem ∷ 33 ⇒ opAs O.Remu ∷ []
+
+abbrev pub ofRegisters : Words
+ofRegisters = ofSums ++ ofProducts
+
+abbrev pub ofImmediates : Words
+ofImmediates =
+    34 ⇒ immediateAs O.Add ∷ 35 ⇒ shiftAs O.Sll ∷ 36 ⇒ shiftAs O.Srl ∷ 37 ⇒ shiftAs O.Sra ∷ 38 ⇒ immediateAs O.Slt
+    ∷ 39 ⇒ immediateAs O.Sltu ∷ 40 ⇒ immediateAs O.And ∷ 41 ⇒ immediateAs O.Or ∷ 42 ⇒ immediateAs O.Xor ∷ []
+
+-- from here on, this and an op's number, which is under opLimit
+abbrev pub vectorKinds : ℕ
+vectorKinds = 128
+
+abbrev pub opLimit : ℕ
+opLimit = 32
+
+unfoldable pub rowOf : ℕ → Fields → Instr
+rowOf k c =
+    cond (leb vectorKinds k) (vectorWord (opAt (k % opLimit)) c) (wordAt c k (groups ++ ofRegisters ++ ofImmediates))
+
+abbrev pub instrOf : ℕ → ℕ → Instr
+instrOf k w = rowOf k (fieldsOf w)

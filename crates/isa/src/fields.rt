@@ -1,0 +1,248 @@
+// A word's fields, read from the word: what each is, and what it stays under.
+ghost use mathlib.Core.Path.{_≡_};
+ghost use Prim.Native.Nat.{_<_, _^_};
+ghost use Rattle.isa.specs.Bounds.{scalarRegisters, vectorRegisters, fieldLimit};
+ghost use Rattle.isa.specs.Fields.{fieldsOf, x as xOf, v as vOf, immI, immS, immB, immU, immJ};
+ghost use Rattle.isa.specs.Fields.{privateLoadOffset, privateStoreOffset};
+ghost use Rattle.isa.specs.Number.{opAt};
+ghost use Rattle.isa.specs.Kinds.{condOf, loadOpOf, storeOpOf, laneStoreOpOf, csrOpOf, sourceOf};
+use crate::CsrOp;
+use crate::LoadOp;
+use crate::Source;
+use crate::StoreOp;
+use crate::VReg;
+use crate::XReg;
+use word::Cond;
+use word::Op;
+
+pub fn funct3(w: u32) -> u32
+    ensures { λ r. ⌜ (r ≡ fieldsOf w .funct3) × (r < 2 ^ 3) ⌝ }
+{
+    w / 4096 % 8
+}
+
+// ---- a field of five bits as it is
+
+pub fn rd(w: u32) -> u8
+    ensures { λ r. ⌜ (r ≡ fieldsOf w .rd) × (r < fieldLimit) ⌝ }
+{
+    (w / 128 % 32) as u8
+}
+
+pub fn rs1(w: u32) -> u8
+    ensures { λ r. ⌜ (r ≡ fieldsOf w .rs1) × (r < fieldLimit) ⌝ }
+{
+    (w / 32768 % 32) as u8
+}
+
+// In the place of rs2.
+pub fn shift_amount(w: u32) -> u16
+    ensures { λ r. ⌜ (r ≡ fieldsOf w .rs2) × (r < fieldLimit) ⌝ }
+{
+    (w / 1048576 % 32) as u16
+}
+
+// ---- registers
+
+pub fn xd(w: u32) -> XReg
+    ensures { λ r. ⌜ (r ≡ xOf (fieldsOf w .rd)) × (r .0 < scalarRegisters) ⌝ }
+{
+    XReg((w / 128 % 32) as u8)
+}
+
+pub fn xs1(w: u32) -> XReg
+    ensures { λ r. ⌜ (r ≡ xOf (fieldsOf w .rs1)) × (r .0 < scalarRegisters) ⌝ }
+{
+    XReg((w / 32768 % 32) as u8)
+}
+
+pub fn xs2(w: u32) -> XReg
+    ensures { λ r. ⌜ (r ≡ xOf (fieldsOf w .rs2)) × (r .0 < scalarRegisters) ⌝ }
+{
+    XReg((w / 1048576 % 32) as u8)
+}
+
+pub fn vd(w: u32) -> VReg
+    ensures { λ r. ⌜ (r ≡ vOf (fieldsOf w .rd)) × (r .0 < vectorRegisters) ⌝ }
+{
+    VReg((w / 128 % 32) as u8)
+}
+
+pub fn vs1(w: u32) -> VReg
+    ensures { λ r. ⌜ (r ≡ vOf (fieldsOf w .rs1)) × (r .0 < vectorRegisters) ⌝ }
+{
+    VReg((w / 32768 % 32) as u8)
+}
+
+pub fn vs2(w: u32) -> VReg
+    ensures { λ r. ⌜ (r ≡ vOf (fieldsOf w .rs2)) × (r .0 < vectorRegisters) ⌝ }
+{
+    VReg((w / 1048576 % 32) as u8)
+}
+
+// ---- immediates, with the definition's own divisions
+
+pub fn imm_i(w: u32) -> u16
+    ensures { λ r. ⌜ (r ≡ immI (fieldsOf w)) × (r < 2 ^ 12) ⌝ }
+{
+    (w / 1048576) as u16
+}
+
+pub fn imm_s(w: u32) -> u16
+    ensures { λ r. ⌜ (r ≡ immS (fieldsOf w)) × (r < 2 ^ 12) ⌝ }
+{
+    (w / 33554432 * 32 + w / 128 % 32) as u16
+}
+
+pub fn private_load_offset(w: u32) -> u16
+    ensures { λ r. ⌜ (r ≡ privateLoadOffset (fieldsOf w)) × (r < 2 ^ 11) ⌝ }
+{
+    (w / 33554432 % 64 * 32 + w / 1048576 % 32) as u16
+}
+
+pub fn private_store_offset(w: u32) -> u16
+    ensures { λ r. ⌜ (r ≡ privateStoreOffset (fieldsOf w)) × (r < 2 ^ 11) ⌝ }
+{
+    (w / 33554432 % 64 * 32 + w / 128 % 32) as u16
+}
+
+pub fn imm_b(w: u32) -> u16
+    ensures { λ r. ⌜ (r ≡ immB (fieldsOf w)) × (r < 2 ^ 13) ⌝ }
+{
+    (w / 33554432 / 64 * 4096
+        + w / 128 % 32 % 2 * 2048
+        + w / 33554432 % 64 * 32
+        + w / 128 % 32 / 2 * 2) as u16
+}
+
+pub fn imm_u(w: u32) -> u32
+    ensures { λ r. ⌜ (r ≡ immU (fieldsOf w)) × (r < 2 ^ 20) ⌝ }
+{
+    w / 4096
+}
+
+pub fn imm_j(w: u32) -> u32
+    ensures { λ r. ⌜ (r ≡ immJ (fieldsOf w)) × (r < 2 ^ 21) ⌝ }
+{
+    w / 33554432 / 64 * 1048576
+        + w / 32768 % 32 * 32768
+        + w / 4096 % 8 * 4096
+        + w / 1048576 % 32 % 2 * 2048
+        + w / 33554432 % 64 * 32
+        + w / 1048576 % 32 / 2 * 2
+}
+
+// ---- what funct3 says within a kind
+
+pub fn cond(w: u32) -> Cond
+    ensures { λ r. ⌜ r ≡ condOf (fieldsOf w) ⌝ }
+{
+    let funct3 = w / 4096 % 8;
+    match funct3 {
+        0b000 => Cond::Eq,
+        0b001 => Cond::Ne,
+        0b100 => Cond::Lt,
+        0b101 => Cond::Ge,
+        0b110 => Cond::Ltu,
+        _ => Cond::Geu,
+    }
+}
+
+pub fn load_op(w: u32) -> LoadOp
+    ensures { λ r. ⌜ r ≡ loadOpOf (fieldsOf w) ⌝ }
+{
+    let funct3 = w / 4096 % 8;
+    match funct3 {
+        0b000 => LoadOp::B,
+        0b001 => LoadOp::H,
+        0b010 => LoadOp::W,
+        0b100 => LoadOp::Bu,
+        _ => LoadOp::Hu,
+    }
+}
+
+pub fn store_op(w: u32) -> StoreOp
+    ensures { λ r. ⌜ r ≡ storeOpOf (fieldsOf w) ⌝ }
+{
+    let funct3 = w / 4096 % 8;
+    match funct3 {
+        0b000 => StoreOp::B,
+        0b001 => StoreOp::H,
+        _ => StoreOp::W,
+    }
+}
+
+pub fn lane_store_op(w: u32) -> StoreOp
+    ensures { λ r. ⌜ r ≡ laneStoreOpOf (fieldsOf w) ⌝ }
+{
+    let funct3 = w / 4096 % 8;
+    match funct3 {
+        0b111 => StoreOp::B,
+        0b011 => StoreOp::H,
+        _ => StoreOp::W,
+    }
+}
+
+pub fn csr_op(w: u32) -> CsrOp
+    ensures { λ r. ⌜ r ≡ csrOpOf (fieldsOf w) ⌝ }
+{
+    let funct3 = w / 4096 % 8;
+    match funct3 {
+        0b001 => CsrOp::Rw,
+        0b010 => CsrOp::Rs,
+        0b101 => CsrOp::Rw,
+        0b110 => CsrOp::Rs,
+        _ => CsrOp::Rc,
+    }
+}
+
+// A vector word's last operand.
+pub fn source(w: u32) -> Source
+    ensures { λ r. ⌜ r ≡ sourceOf (fieldsOf w) ⌝ }
+{
+    let funct3 = w / 4096 % 8;
+    match funct3 {
+        0b000 => Source::V(vs1(w)),
+        0b010 => Source::V(vs1(w)),
+        0b011 => Source::I(rs1(w)),
+        _ => Source::X(xs1(w)),
+    }
+}
+
+// The op that has the number.
+pub fn op_at(n: u32) -> Op
+    ensures { λ r. ⌜ r ≡ opAt n ⌝ }
+{
+    match n {
+        0 => Op::Add,
+        1 => Op::Sub,
+        2 => Op::Rsub,
+        3 => Op::Sll,
+        4 => Op::Srl,
+        5 => Op::Sra,
+        6 => Op::Slt,
+        7 => Op::Sltu,
+        8 => Op::And,
+        9 => Op::Or,
+        10 => Op::Xor,
+        11 => Op::Mul,
+        12 => Op::Mulh,
+        13 => Op::Mulhsu,
+        14 => Op::Mulhu,
+        15 => Op::Div,
+        16 => Op::Divu,
+        17 => Op::Rem,
+        18 => Op::Remu,
+        19 => Op::Min,
+        20 => Op::Minu,
+        21 => Op::Max,
+        22 => Op::Maxu,
+        23 => Op::Seq,
+        24 => Op::Sne,
+        25 => Op::Sle,
+        26 => Op::Sleu,
+        27 => Op::Sgt,
+        28 => Op::Sgtu,
+        _ => Op::Move,
+    }
+}
