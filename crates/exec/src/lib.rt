@@ -639,7 +639,7 @@ pub fn fetch(h: &[u32; MOVING], g: &[u32; FIXED], k: &[u32]) -> Word
 }
 
 // The tests of a step after 1 and 2, and the instruction. A run has tested the sizes and the warp once, and every step keeps them.
-// It has one caller, the loop of a run: the compiler then makes one function of loop, decoder and handlers. A second cost 1.4 times (docs/SPEED.md).
+// It has one caller, the loop of a run: the compiler then makes one function of loop, decoder and handlers (docs/SPEED.md).
 pub fn step(
     h: &mut [u32; MOVING],
     g: &[u32; FIXED],

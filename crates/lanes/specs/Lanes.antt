@@ -8,6 +8,7 @@ use Rattle.word.specs.Word.{applyOf, holdsOf}
 use Rattle.word.specs.declared.Op.{Op}
 use Rattle.word.specs.declared.Cond.{Cond}
 use Rattle.isa.specs.declared.VReg.{VReg}
+use Rattle.isa.specs.Bounds.{vectorRegisters}
 use Rattle.lanes.specs.Mask.{bit}
 use Rattle.lanes.specs.declared.Operand.{Operand}
 use Rattle.lanes.specs.declared.Operand.the-variants.{Reg, Word}
@@ -17,7 +18,7 @@ abbrev pub lanesMax : ℕ
 lanesMax = 32
 
 abbrev pub registers : ℕ
-registers = 32
+registers = vectorRegisters
 
 abbrev pub fileWords : ℕ
 fileWords = registers * lanesMax

@@ -5,6 +5,7 @@ use mathlib.Core.List.{List}
 use lib.Dec.{eqb}
 use lib.ListN.{getD, set, replicate}
 use Rattle.isa.specs.declared.XReg.{XReg}
+use Rattle.isa.specs.Bounds.{scalarRegisters}
 use Rattle.lanes.specs.Lanes.{lanesMax}
 use Rattle.warp.specs.declared.Split.{Split}
 use Rattle.warp.specs.declared.Fixed.{Fixed}
@@ -16,7 +17,7 @@ use Rattle.word.specs.Word.{addOf}
 
 -- the scalar registers
 abbrev pub scalarCount : ℕ
-scalarCount = 32
+scalarCount = scalarRegisters
 
 -- room for open splits
 abbrev pub splitCount : ℕ

@@ -1,47 +1,15 @@
--- `decoder::kind` meets its contract: each arm is a row of the table of opcodes. Assumes nothing.
-use mathlib.Core.List.{[]}
+-- `decoder::kind` meets its contract: the row of the commonest opcode, or another. Assumes nothing.
 use borrow.Author.Needs.{needs}
-use Rattle.isa.specs.declared.Instr.the-variants.{Refused}
-use Rattle.isa.specs.Fields.{fieldsOf}
-use Rattle.isa.specs.Table.{on}
-use Rattle.isa.specs.Decode.{opcodes, decodeOf}
-use Rattle.isa.specs.Kinds.{rowOf}
-use Rattle.isa.specs.Laws.{past}
+use Rattle.isa.specs.Decode.{decodeOf}
 use Rattle.decoder.proofs.kind.Statement.{statement}
 use Rattle.decoder.proofs.kind.Tie as tie
 
 pub kind-spec : {M : Type 1} → statement M
-unfolding rowOf decodeOf
+unfolding decodeOf
 kind-spec =
     tie.close
     (tie.spec
     (λ c κs. search needs)
-    (λ c κs. search needs)
-    (λ c κs. search needs)
-    (λ c κs. search needs)
-    (λ c κs. search needs)
-    (λ c κs. search needs)
-    (λ c κs. search needs)
-    (λ c κs. search needs)
-    (λ c κs. search needs)
-    (λ c κs. search needs)
-    (λ c κs. search needs)
-    (λ c κs. search needs)
-    (λ c κs. search needs)
-    (λ c. simp (c .match .keys1))
-    (λ c. simp (c .match .keys2))
-    (λ c. simp (c .match .keys3))
-    (λ c. simp (c .before .match .keys4) (c .jalr .ensures))
-    (λ c. simp (c .before .match .keys5) (c .branch .ensures))
-    (λ c. simp (c .before .match .keys6) (c .load .ensures))
-    (λ c. simp (c .before .match .keys7) (c .store .ensures))
-    (λ c. simp (c .before .match .keys8) (c .op-imm .ensures))
-    (λ c. simp (c .before .match .keys9) (c .op .ensures))
-    (λ c. simp (c .before .match .keys10) (c .fence .ensures))
-    (λ c. simp (c .before .match .keys11) (c .csr .ensures))
-    (λ c. simp (c .before .match .keys12) (c .vector .ensures))
-    (λ c. simp (c .before .match .keys13) (c .splits .ensures))
-    (λ c. simp (c .before .match .keys14) (c .stop .ensures))
-    (λ c. simp (c .before .match .keys15) (c .lane-access .ensures))
-    (λ c. simp (c .before .match .keys16) (c .private .ensures))
-    (λ c. let f = fieldsOf (c .before .args .w) in past (on f) Refused _ opcodes [] (c .match .rest)))
+    (λ c. simp (c .before .if1 .taken) (c .op .ensures))
+    (λ c κs. c .if1 .left)
+    (λ c. c .other .ensures))
