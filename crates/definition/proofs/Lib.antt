@@ -4,5 +4,6 @@ pub mod Immediate
 pub mod Inside
 pub mod Sizes
 pub mod Sound
+pub mod Stored
 pub mod Target
 pub mod Tests

@@ -1,7 +1,17 @@
 // The three files by name, and the printout to standard output. What the printout says is `printout`'s.
+use printout::DATA_BYTES;
+use printout::KERNEL_BYTES;
+use printout::ROOM;
 ghost use Rattle.io.specs.Counts.{Counts};
 
-// A file's first bytes, as many as `buffer` holds; none where it cannot be opened or read.
+// A byte to spare, by which a file that is too large is noticed.
+const CARD_BUFFER: usize = 51;
+
+const KERNEL_BUFFER: usize = KERNEL_BYTES + 1;
+
+const DATA_BUFFER: usize = DATA_BYTES + 1;
+
+// A file's first bytes, as many as `buffer` holds: none where it cannot be opened, and those before the read that fails where one does.
 fn read_file(path: &[u8], buffer: &mut [u8]) -> usize
     ensures { λ r. ⌜ Counts r (now (buffer .exit)) ⌝ }
 {
@@ -14,13 +24,12 @@ fn read_file(path: &[u8], buffer: &mut [u8]) -> usize
     n
 }
 
-// Each buffer has a byte to spare, by which a file that is too large is noticed.
+// The printout of three files by name.
 pub fn run_files(card: &[u8], kernel: &[u8], bytes: &[u8], vector: &mut [u32]) {
-    let mut cards = [0u8; 51];
-    let mut kernels = [0u8; 65537];
-    let mut memory = [0u8; 65537];
-    let mut words = [0u32; 16384];
-    let mut out = [0u8; 107];
+    let mut cards = [0u8; CARD_BUFFER];
+    let mut kernels = [0u8; KERNEL_BUFFER];
+    let mut memory = [0u8; DATA_BUFFER];
+    let mut out = [0u8; ROOM];
     let c = read_file(card, &mut cards);
     let k = read_file(kernel, &mut kernels);
     let b = read_file(bytes, &mut memory);
@@ -28,7 +37,6 @@ pub fn run_files(card: &[u8], kernel: &[u8], bytes: &[u8], vector: &mut [u32]) {
         &cards[..c],
         &kernels[..k],
         &mut memory[..b],
-        &mut words,
         vector,
         &mut out,
     );

@@ -5,7 +5,6 @@ pub mod Scalar
 pub mod Vector
 pub mod Ventus
 pub mod Decode
-pub mod Cards
 pub mod Number
 pub mod Kinds
 pub mod Fits

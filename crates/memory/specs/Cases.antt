@@ -31,19 +31,15 @@ words l = getD (287454020 ∷ 1432778632 ∷ 2576980377 ∷ 3722304989 ∷ []) l
 abbrev row : List ℕ → ℕ → ℕ
 row a l = base + getD a l 0
 
--- P10: VSW12 with only lane 3 outside is refused; with lane 3 inactive it is not, and lanes 0 to 2 write
-p10-refused : allInside 4 (bit 15) lent 4 (row (0 ∷ 4 ∷ 8 ∷ 13 ∷ [])) ≡ false
+-- a store with lane 3 outside is not refused where that lane isn't active, and lanes 0 to 2 write
+three-inside : allInside 4 (bit 7) lent 4 (row (0 ∷ 4 ∷ 8 ∷ 13 ∷ [])) ≡ true
 unfolding base bytes allLanes bitAt
-p10-refused = refl
+three-inside = refl
 
-p10-three : allInside 4 (bit 7) lent 4 (row (0 ∷ 4 ∷ 8 ∷ 13 ∷ [])) ≡ true
-unfolding base bytes allLanes bitAt
-p10-three = refl
-
-p10-written : storeLanes 4 (bit 7) store.W (row (0 ∷ 4 ∷ 8 ∷ 13 ∷ [])) words lent
+three-written : storeLanes 4 (bit 7) store.W (row (0 ∷ 4 ∷ 8 ∷ 13 ∷ [])) words lent
     ≡ 68 ∷ 51 ∷ 34 ∷ 17 ∷ 136 ∷ 119 ∷ 102 ∷ 85 ∷ 153 ∷ 153 ∷ 153 ∷ 153 ∷ 12 ∷ 13 ∷ 14 ∷ 15 ∷ []
 unfolding base bytes words eachLane bitAt leBytes
-p10-written = refl
+three-written = refl
 
 -- lanes 0, 1 and 3 store to one byte: the highest wins
 highest : storeLanes 4 (bit 11) store.B (row (5 ∷ 5 ∷ 5 ∷ 5 ∷ [])) words lent

@@ -1,57 +1,108 @@
--- The printout by cases, in the order in which the files are tested.
-use Prim.Native.Nat.{ℕ, _/_, _%_, _≤_, _<_}
-use mathlib.Core.Path.{_≡_, sym, ap, _∙_}
-use mathlib.Core.Bool.{false, and-false}
-use mathlib.Core.List.{List}
+-- The printout by cases, in the order in which the files are tested; and what follows of the call.
+use Prim.Native.Nat.{ℕ, _%_, _≤_}
+use mathlib.Core.Path.{_≡_, refl, sym, ap, _∙_}
+use mathlib.Core.Bool.{Bool, true, false, not, cond}
+use mathlib.Core.List.{List, [], _∷_}
 use native.Mathlib.Omega.{arith}
-use borrow.Author.Tests.{ne-eqb, lt-leb}
-use lib.ListN.{length, take}
-use lib.Seq.{sets-eq, take-at, length-sets, length-take-le}
+use native.Mathlib.Nat.{zero-add}
+use lib.Dec.{eqb, leb}
+use borrow.Author.Tests.{ne-eqb, leb-true}
+use lib.ListN.{length, replicate, length-replicate}
+use lib.Seq.{length-sets, length-take-le}
 use Rattle.io.specs.Counts.{Counts}
-use Rattle.warp.specs.declared.Fixed.{Fixed}
+use Rattle.answer.specs.Rows.{_⇒_, first}
+use Rattle.answer.proofs.Rows.{both, every-at}
+use Rattle.lanes.specs.Lanes.{fileWords}
 use Rattle.warp.specs.declared.Launch.{Launch}
+use Rattle.warp.specs.WellFormed.{launchOkOf}
 use Rattle.card.specs.Card.{Reading, readCardOf}
 use Rattle.definition.specs.State.{Outcome}
-use Rattle.definition.specs.Refuse.{kernelLimit, runsOkOf}
+use Rattle.definition.specs.Refuse.{runsOkOf}
 use Rattle.definition.specs.Calls.{launchOf, runOf}
-use Rattle.printout.specs.Puts.{Puts}
-use Rattle.printout.specs.Printout.{codeLine, budget, ranLines, wordsOf, kernelLines, printoutOf}
-use Rattle.printout.proofs.Laws.{words-of-length}
+use Rattle.definition.proofs.Sizes.{sizes-kept}
+use Rattle.printout.specs.Puts.{Puts, roomNeeded}
+use Rattle.printout.specs.Printout.{codeLine, budget, kernelBytes, dataBytes, filesOkOf, Report, report, ranReport, wordsOf, kernelReport, reportOf, printoutOf, Printed, printed, putInto, buffersOkOf, printFilesOf}
+
+-- ---- the files
 
 module _ (c k v d : List ℕ) (r : Reading) (e : r ≡ readCardOf c) (n : ℕ) (is : n ≡ r .number) where
-  pub card-refused : (n ≡ 0 → ⊥) → printoutOf c k v d ≡ codeLine n
-  unfolding printoutOf
-  card-refused h = rw (← e, ← is, ne-eqb n 0 h)
+  pub card-refused : (n ≡ 0 → ⊥) → reportOf c k v d ≡ report (codeLine n) v d
+  unfolding reportOf
+  card-refused h = rw (← e, ← is, ne-eqb n 0 h, ne-eqb n 0 h)
 
   module _ (h : n ≡ 0) where
-    pub kernel-odd : (length k % 4 ≡ 0 → ⊥) → printoutOf c k v d ≡ codeLine 1
-    unfolding printoutOf
-    kernel-odd odd = rw (← e, ← is, h, ne-eqb _ 0 odd)
+    pub files-refused : filesOkOf k d ≡ false → reportOf c k v d ≡ report (codeLine 1) v d
+    unfolding reportOf
+    files-refused f = rw (← e, ← is, h, f)
 
-    pub kernel-whole : length k % 4 ≡ 0 → printoutOf c k v d ≡ kernelLines (wordsOf k) (r .launch) v d
-    unfolding printoutOf
-    kernel-whole whole = rw (← e, ← is, h, whole)
+    pub files-taken : filesOkOf k d ≡ true → reportOf c k v d ≡ kernelReport (wordsOf k) (r .launch) v d
+    unfolding reportOf
+    files-taken f = rw (← e, ← is, h, f)
 
--- a kernel that is too long is refused by the launch
-runs-long : (f : Fixed) (k v d : List ℕ) → kernelLimit < length k → runsOkOf f k v d ≡ false
-unfolding runsOkOf
-runs-long f k v d h = simp (lt-leb (length k) kernelLimit h, and-false)
+pub kernel-fits : (k d : List ℕ) → filesOkOf k d ≡ true → length k ≤ kernelBytes
+unfolding filesOkOf
+kernel-fits k d e = leb-true _ _ (every-at (eqb (length k % 4) 0 ∷ leb (length k) kernelBytes ∷ leb (length d) dataBytes ∷ []) e 1)
 
-pub kernel-long : (k : List ℕ) (l : Launch) (v d : List ℕ) → kernelLimit < length k / 4 → kernelLines (wordsOf k) l v d ≡ codeLine 1
-unfolding kernelLines launchOf
-kernel-long k l v d h = rw (runs-long (l .fixed) (wordsOf k) v d (omega (arith, words-of-length k)))
+-- ---- the launch
 
 module _ (k : List ℕ) (l : Launch) (v d : List ℕ) (o : Outcome) (e : o ≡ launchOf k l v d) (n : ℕ) (is : n ≡ o .code) where
-  pub launch-refused : (n ≡ 0 → ⊥) → kernelLines k l v d ≡ codeLine n
-  unfolding kernelLines
+  pub launch-refused : (n ≡ 0 → ⊥) → kernelReport k l v d ≡ report (codeLine n) (o .left .vector) (o .left .bytes)
+  unfolding kernelReport
   launch-refused h = rw (← e, ← is, ne-eqb n 0 h)
 
-  pub launch-ran : n ≡ 0 → kernelLines k l v d ≡ ranLines (runOf k budget (o .left))
-  unfolding kernelLines
+  pub launch-ran : n ≡ 0 → kernelReport k l v d ≡ ranReport (runOf k budget (o .left))
+  unfolding kernelReport
   launch-ran h = rw (← e, ← is, h)
 
--- what is put at a buffer's start is what it starts with
-pub printed : {o w p x : List ℕ} {r : ℕ} → Puts o 0 w p r → r ≤ length o → x ≡ w → Counts r p × (take r p ≡ x)
-printed {o} {w} {p} {x} {r} s h e =
-    let n : length p ≡ length o = ap length (s .text) ∙ length-sets o 0 w in
-    ((omega arith, sym (length-take-le r p (omega arith))), rw (s .text, sets-eq w o 0 (omega arith), e) (take-at w _ r (omega arith)))
+-- ---- the call
+
+-- lines put at a buffer's start
+pub put-report : {o w p v d : List ℕ} {r : ℕ} {x : Report} → Puts o 0 w p r → x ≡ report w v d → printed r p v d ≡ putInto o x
+put-report s e = rw (e, s .text, s .end, zero-add)
+
+module _ (c k d v o : List ℕ) where
+  pub print-short : buffersOkOf v o ≡ false → printed 0 o v d ≡ printFilesOf c k d v o
+  unfolding printFilesOf
+  print-short e = rw e
+
+  pub print-done : buffersOkOf v o ≡ true → putInto o (reportOf c k v d) ≡ printFilesOf c k d v o
+  unfolding printFilesOf
+  print-done e = rw e
+
+pub room : (v o : List ℕ) → buffersOkOf v o ≡ true → roomNeeded ≤ length o
+unfolding buffersOkOf
+room v o e = leb-true _ _ (both (eqb (length v) fileWords) (leb roomNeeded (length o)) e .1)
+
+pub counted : (o p v d : List ℕ) (r : ℕ) (x : Report) → printed r p v d ≡ putInto o x → r ≤ roomNeeded → roomNeeded ≤ length o → Counts r p
+counted o p v d r x e a b =
+    let n : length p ≡ length o = ap (λ (q : Printed). length (q .out)) e ∙ length-sets o 0 (x .lines) in
+    (omega arith, sym (length-take-le r p (omega arith)))
+
+-- Two results that the contract allows are equal: the size, and what each lent run holds.
+pub print-determined : (c k d v o : List ℕ) (a b : Printed) → a ≡ printFilesOf c k d v o → b ≡ printFilesOf c k d v o → a ≡ b
+print-determined c k d v o a b p q = p ∙ sym q
+
+-- ---- the vector file that is lent doesn't matter
+
+module _ (v d : List ℕ) (h : length v ≡ fileWords) where
+  abbrev zeros : List ℕ
+  zeros = replicate fileWords 0
+
+  zeros-long : length zeros ≡ length v
+  zeros-long = length-replicate {A = ℕ} fileWords 0 ∙ sym h
+
+  kernel-lines : (k : List ℕ) (l : Launch) (a b : Bool) → runsOkOf (l .fixed) k v d ≡ a → launchOkOf l ≡ b → kernelReport k l v d .lines ≡ kernelReport k l zeros d .lines
+  unfolding kernelReport launchOf
+  kernel-lines k l false b p q = rw (sizes-kept (l .fixed) k v d zeros d zeros-long refl, p)
+  kernel-lines k l true false p q = rw (sizes-kept (l .fixed) k v d zeros d zeros-long refl, p, q)
+  kernel-lines k l true true p q = rw (sizes-kept (l .fixed) k v d zeros d zeros-long refl, p, q)
+
+  pub printout-is : (c k : List ℕ) → reportOf c k v d .lines ≡ printoutOf c k d
+  unfolding reportOf printoutOf
+  printout-is c k =
+      let r = readCardOf c in
+      go (first (r .number ⇒ not (eqb (r .number) 0) ∷ 1 ⇒ not (filesOkOf k d) ∷ [])) (eqb (first (r .number ⇒ not (eqb (r .number) 0) ∷ 1 ⇒ not (filesOkOf k d) ∷ [])) 0)
+    where
+      go : (n : ℕ) (t : Bool) → cond t (kernelReport (wordsOf k) (readCardOf c .launch) v d) (report (codeLine n) v d) .lines ≡ cond t (kernelReport (wordsOf k) (readCardOf c .launch) zeros d) (report (codeLine n) zeros d) .lines
+      go n true = kernel-lines (wordsOf k) (readCardOf c .launch) _ _ refl refl
+      go n false = refl

@@ -1,5 +1,5 @@
 -- What the proofs of several functions use.
 mod Laws
-mod Cases
+pub mod Cases
 -- the example printout, by computing
 mod Example

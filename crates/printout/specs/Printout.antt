@@ -1,15 +1,19 @@
 -- The printout: five lines after a run, or the code line alone after a refused card or launch.
 use Prim.Native.Nat.{ℕ, zero, suc, _*_, _/_, _%_}
-use mathlib.Core.Bool.{cond}
+use mathlib.Core.Bool.{Bool, not, _&&_, cond}
 use mathlib.Core.List.{List, [], _∷_, _++_}
-use lib.Dec.{eqb}
-use lib.ListN.{length}
+use lib.Dec.{eqb, leb}
+use lib.ListN.{length, replicate}
+use lib.Seq.{sets}
+use Rattle.answer.specs.Rows.{_⇒_, first, every}
+use Rattle.lanes.specs.Lanes.{fileWords}
 use Rattle.memory.specs.Bytes.{leAt}
 use Rattle.warp.specs.declared.Launch.{Launch}
 use Rattle.card.specs.Card.{readCardOf}
 use Rattle.definition.specs.State.{Outcome}
 use Rattle.definition.specs.Calls.{launchOf, Ran, runOf}
 use Rattle.printout.specs.Text.{hexOf, decimalOf, lineOf}
+use Rattle.printout.specs.Puts.{roomNeeded}
 
 -- ---- the lines' names, each with the blank after it
 
@@ -55,20 +59,70 @@ wordsOf k = firstWords (length k / 4) k
 abbrev pub budget : ℕ
 budget = 65536
 
-abbrev pub ranLines : Ran → List ℕ
-ranLines r =
-    let w = r .ends .left .warp in
-    fiveLines (r .ends .code) (r .steps) (w .pc) (w .mask) (w .depth)
+-- the program's own limits, whatever the machine's are: the bytes of a kernel file, and of a data file
+abbrev pub kernelBytes : ℕ
+kernelBytes = 65536
+
+abbrev pub dataBytes : ℕ
+dataBytes = 65536
+
+-- a kernel file of whole words, and both within the limits
+unfoldable pub filesOkOf : List ℕ → List ℕ → Bool
+filesOkOf k d = every (eqb (length k % 4) 0 ∷ leb (length k) kernelBytes ∷ leb (length d) dataBytes ∷ [])
+
+-- the lines, and the vector file and data memory that are left
+pub record Report : Type 0 where
+  pub lines : List ℕ
+  pub vector : List ℕ
+  pub bytes : List ℕ
+
+abbrev pub report : List ℕ → List ℕ → List ℕ → Report
+report t v d = record { lines = t; vector = v; bytes = d }
+
+abbrev pub ranReport : Ran → Report
+ranReport r =
+    let m = r .ends .left in
+    let w = m .warp in
+    report (fiveLines (r .ends .code) (r .steps) (w .pc) (w .mask) (w .depth)) (m .vector) (m .bytes)
 
 -- the kernel k in words
-abbrev pub launchedLines : List ℕ → Outcome → List ℕ
-launchedLines k o = cond (eqb (o .code) 0) (ranLines (runOf k budget (o .left))) (codeLine (o .code))
+abbrev pub launchedReport : List ℕ → Outcome → Report
+launchedReport k o = cond (eqb (o .code) 0) (ranReport (runOf k budget (o .left))) (report (codeLine (o .code)) (o .left .vector) (o .left .bytes))
 
-unfoldable pub kernelLines : List ℕ → Launch → List ℕ → List ℕ → List ℕ
-kernelLines k l v d = launchedLines k (launchOf k l v d)
+unfoldable pub kernelReport : List ℕ → Launch → List ℕ → List ℕ → Report
+kernelReport k l v d = launchedReport k (launchOf k l v d)
 
--- the files c, k and d, with the vector file v lent: the card first, then whole words, then the launch
-unfoldable pub printoutOf : List ℕ → List ℕ → List ℕ → List ℕ → List ℕ
-printoutOf c k v d =
+-- the files c, k and d, with the vector file v lent: the card first, then the files' sizes, then the launch
+unfoldable pub reportOf : List ℕ → List ℕ → List ℕ → List ℕ → Report
+reportOf c k v d =
     let r = readCardOf c in
-    cond (eqb (r .number) 0) (cond (eqb (length k % 4) 0) (kernelLines (wordsOf k) (r .launch) v d) (codeLine 1)) (codeLine (r .number))
+    let n = first (r .number ⇒ not (eqb (r .number) 0) ∷ 1 ⇒ not (filesOkOf k d) ∷ []) in
+    cond (eqb n 0) (kernelReport (wordsOf k) (r .launch) v d) (report (codeLine n) v d)
+
+-- the printout, which the three files alone decide (the law printout-is)
+unfoldable pub printoutOf : List ℕ → List ℕ → List ℕ → List ℕ
+printoutOf c k d = reportOf c k (replicate fileWords 0) d .lines
+
+-- ---- the call
+
+-- how many bytes of the printout were put, and the lent runs afterwards
+pub record Printed : Type 0 where
+  pub size : ℕ
+  pub out : List ℕ
+  pub vector : List ℕ
+  pub bytes : List ℕ
+
+abbrev pub printed : ℕ → List ℕ → List ℕ → List ℕ → Printed
+printed n o v d = record { size = n; out = o; vector = v; bytes = d }
+
+-- the lines at the start of o
+abbrev pub putInto : List ℕ → Report → Printed
+putInto o p = printed (length (p .lines)) (sets o 0 (p .lines)) (p .vector) (p .bytes)
+
+-- a whole vector file, and room for every printout
+unfoldable pub buffersOkOf : List ℕ → List ℕ → Bool
+buffersOkOf v o = eqb (length v) fileWords && leb roomNeeded (length o)
+
+-- refused, nothing is put and nothing changes
+unfoldable pub printFilesOf : List ℕ → List ℕ → List ℕ → List ℕ → List ℕ → Printed
+printFilesOf c k d v o = cond (buffersOkOf v o) (putInto o (reportOf c k v d)) (printed 0 o v d)

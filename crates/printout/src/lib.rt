@@ -5,10 +5,9 @@ ghost use Prim.Native.Nat.{_+_, _/_, _<_, _≤_};
 ghost use mathlib.Core.List.{[], _∷_};
 ghost use lib.ListN.{length, take};
 ghost use Rattle.io.specs.Counts.{Counts};
-ghost use Rattle.definition.specs.Refuse.{kernelLimit};
 ghost use Rattle.printout.specs.Text.{digitOf, hexDigits, hexOf, decimalOf, lineOf};
 ghost use Rattle.printout.specs.Puts.{Puts, roomNeeded};
-ghost use Rattle.printout.specs.Printout.{codeLine, fiveLines, wordsOf, kernelLines, printoutOf};
+ghost use Rattle.printout.specs.Printout.{codeLine, fiveLines, wordsOf, filesOkOf, kernelReport, reportOf, printed, putInto, buffersOkOf, printFilesOf};
 
 // ---- text, put into `out` from index `at` on; each answers the index after it
 
@@ -116,7 +115,16 @@ fn put_words(kernel: &[u8], words: &mut [u32])
 
 // ---- three files in, lines out
 
-const KERNEL_LIMIT: usize = 16384;
+// The program's own limits: the bytes of a kernel file and of a data file. And the bytes that hold every printout.
+pub const KERNEL_BYTES: usize = 65536;
+
+pub const DATA_BYTES: usize = 65536;
+
+pub const ROOM: usize = 107;
+
+const KERNEL_WORDS: usize = KERNEL_BYTES / 4;
+
+const FILE_WORDS: usize = 1024;
 
 const BUDGET: u32 = 65536;
 
@@ -129,7 +137,7 @@ fn print_kernel(
     out: &mut [u8],
 ) -> usize
     requires { ⌜ roomNeeded ≤ length (now out) ⌝ }
-    ensures { λ r. ⌜ Puts (now (out .entry)) 0 (kernelLines (now (kernel .entry)) l (now (vector .entry)) (now (bytes .entry))) (now (out .exit)) r × (r ≤ roomNeeded) ⌝ }
+    ensures { λ r. ⌜ (printed r (now (out .exit)) (now (vector .exit)) (now (bytes .exit)) ≡ putInto (now (out .entry)) (kernelReport (now (kernel .entry)) l (now (vector .entry)) (now (bytes .entry)))) × (r ≤ roomNeeded) ⌝ }
 {
     let left = machine::launch(l, kernel, vector, bytes);
     let a = left.answer;
@@ -151,17 +159,23 @@ fn print_kernel(
     )
 }
 
-// The printout of the three files' bytes. `words` has room for the longest kernel.
-pub fn print_files(
+// A kernel file of whole words, and both files within the limits.
+fn files_ok(kernel: &[u8], bytes: &[u8]) -> bool
+    ensures { λ r. ⌜ r ≡ filesOkOf (now (kernel .entry)) (now (bytes .entry)) ⌝ }
+{
+    (kernel.len() % 4 == 0) & ((kernel.len() <= KERNEL_BYTES) & (bytes.len() <= DATA_BYTES))
+}
+
+// The printout of the three files' bytes, where there is room for it.
+fn print_card(
     card: &[u8],
     kernel: &[u8],
     bytes: &mut [u8],
-    words: &mut [u32],
     vector: &mut [u32],
     out: &mut [u8],
 ) -> usize
-    requires { ⌜ (kernelLimit ≤ length (now words)) × (roomNeeded ≤ length (now out)) ⌝ }
-    ensures { λ r. ⌜ Counts r (now (out .exit)) × (take r (now (out .exit)) ≡ printoutOf (now (card .entry)) (now (kernel .entry)) (now (vector .entry)) (now (bytes .entry))) ⌝ }
+    requires { ⌜ roomNeeded ≤ length (now out) ⌝ }
+    ensures { λ r. ⌜ (printed r (now (out .exit)) (now (vector .exit)) (now (bytes .exit)) ≡ putInto (now (out .entry)) (reportOf (now (card .entry)) (now (kernel .entry)) (now (vector .entry)) (now (bytes .entry)))) × (r ≤ roomNeeded) ⌝ }
 {
     let read = card::read_card(card);
     let a = read.answer;
@@ -169,14 +183,35 @@ pub fn print_files(
     if code != answer::DONE {
         return put_code_line(out, code);
     }
-    if kernel.len() % 4 != 0 {
+    if !files_ok(kernel, bytes) {
         return put_code_line(out, answer::SIZE);
     }
+    let mut words = [0u32; KERNEL_WORDS];
+    put_words(kernel, &mut words);
     let n = kernel.len() / 4;
-    if KERNEL_LIMIT < n {
-        return put_code_line(out, answer::SIZE);
-    }
-    put_words(kernel, words);
     let l = read.launch;
     print_kernel(l, &words[..n], vector, bytes, out)
+}
+
+// A whole vector file, and room for every printout.
+fn buffers_ok(vector: &[u32], out: &[u8]) -> bool
+    ensures { λ r. ⌜ r ≡ buffersOkOf (now (vector .entry)) (now (out .entry)) ⌝ }
+{
+    (vector.len() == FILE_WORDS) & (ROOM <= out.len())
+}
+
+// The printout of the three files' bytes, at the start of `out`; answers how long it is. Where a lent buffer is too short that is 0, and nothing changes.
+pub fn print_files(
+    card: &[u8],
+    kernel: &[u8],
+    bytes: &mut [u8],
+    vector: &mut [u32],
+    out: &mut [u8],
+) -> usize
+    ensures { λ r. ⌜ Counts r (now (out .exit)) × (printed r (now (out .exit)) (now (vector .exit)) (now (bytes .exit)) ≡ printFilesOf (now (card .entry)) (now (kernel .entry)) (now (bytes .entry)) (now (vector .entry)) (now (out .entry))) ⌝ }
+{
+    if !buffers_ok(vector, out) {
+        return 0;
+    }
+    print_card(card, kernel, bytes, vector, out)
 }

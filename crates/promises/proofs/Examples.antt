@@ -1,5 +1,5 @@
 -- Examples that meet what the promises ask for, by computing.
-use Prim.Native.Nat.{ℕ}
+use Prim.Native.Nat.{ℕ, _<_}
 use mathlib.Core.Path.{_≡_, refl}
 use mathlib.Core.Bool.{false}
 use mathlib.Core.List.{List, [], _∷_, map}
@@ -8,35 +8,43 @@ use lib.Count.{ones}
 use lib.ListN.{replicate}
 use Rattle.lanes.specs.Lanes.{fileWords}
 use Rattle.warp.specs.declared.Launch.{Launch}
-use Rattle.warp.specs.Warp.{zeroWarp, withStop}
+use Rattle.warp.specs.Warp.{splitCount, zeroWarp, withStop}
 use Rattle.definition.specs.State.{State, state}
 use Rattle.definition.specs.Step.{stepOf}
 use Rattle.definition.specs.Calls.{runOf}
 use Rattle.definition.proofs.Computes.{computes}
-use Rattle.promises.specs.Reached.{steps, releases, Reached, launched, goes}
+use Rattle.promises.specs.Reached.{steps, releases, changes, Reached, launched, goes}
 use Rattle.promises.specs.Splits.{Opens, Above, here, on}
 use Rattle.promises.specs.Bound.{loop, launchOn, startOf}
 use Rattle.promises.proofs.Runs.{run-reaches}
-use Rattle.promises.proofs.Splits.{split-cuts, one-lane, restored}
+use Rattle.promises.proofs.Splits.{split-cuts, room, one-lane, restored}
 
 -- ---- two lanes in the loop: the split opens in step 5 and closes in step 10
 
-abbrev two : Launch
+abbrev pub two : Launch
 two = launchOn 2 3
 
 two-started : Reached loop two (startOf loop two)
 unfolding computes
 two-started = launched (replicate fileWords 0) [] refl
 
-abbrev after : ℕ → State
+abbrev pub after : ℕ → State
 after n = runOf loop n (startOf loop two) .ends .left
 
-after-reached : (n : ℕ) → Reached loop two (after n)
+pub after-reached : (n : ℕ) → Reached loop two (after n)
 after-reached n = run-reaches loop two n (startOf loop two) two-started .reached
 
 pub split-opens : Opens loop (after 4) (after 5)
 unfolding computes
-split-opens = split-cuts loop two (after 4) (after 5) (after-reached 4) refl refl
+split-opens = split-cuts loop two (after 4) (after 5) (after-reached 4) refl (lit≤ tt)
+
+-- there is room for it, and the host may write another file before it
+has-room : after 4 .warp .depth < splitCount
+has-room = room loop two (after 4) (after-reached 4) (split-opens .by)
+
+pub changed : Reached loop two (state (after 4 .warp) (replicate fileWords 9) [])
+unfolding computes
+changed = goes (after-reached 4) (changes refl refl)
 
 between : Above loop 0 (after 5) (after 9)
 unfolding computes
@@ -46,7 +54,7 @@ between =
 
 pub mask-back : (after 10 .warp .depth ≡ 0) × (after 10 .warp .mask ≡ 3)
 unfolding computes
-mask-back = restored loop two (after 4) (after 5) (after 9) (after 10) (after-reached 4) refl refl between (steps refl) (lit≤ tt)
+mask-back = restored loop two (after 4) (after 5) (after 9) (after 10) (after-reached 4) refl (lit≤ tt) between (steps refl) (lit≤ tt)
 
 -- ---- one lane in the loop
 

@@ -1,5 +1,5 @@
 -- The promises on lanes at steps that are taken, by lanes 0 and 2 of 4.
-use Prim.Native.Nat.{ℕ, zero, suc, _*_, _≤_, _<_}
+use Prim.Native.Nat.{ℕ, zero, suc, _+_, _*_, _≤_, _<_}
 use mathlib.Core.Path.{_≡_, refl, sym}
 use mathlib.Core.Bool.{true, false, true≢false}
 use mathlib.Core.List.{List, [], _∷_}
@@ -8,18 +8,23 @@ use lib.Dec.{lit≤}
 use lib.ListN.{getD, length-set, replicate, set}
 use lib.Seq.{getD-set-other}
 use borrow.Author.Tests.{eqb-false, not-true}
+use Rattle.isa.specs.Fields.{x}
 use Rattle.isa.specs.declared.Space.the-variants.{Plain}
 use Rattle.isa.specs.declared.StoreOp.the-variants as S
 use Rattle.isa.specs.declared.VReg.{VReg}
-use Rattle.lanes.specs.Lanes.{lanesMax, fileWords, slotOf, laneOf, writeLanes}
+use Rattle.lanes.specs.Lanes.{lanesMax, fileWords, slotOf, laneOf, writeLanes, valueOf}
 use Rattle.warp.specs.WellFormed.{wellFormedOf}
 use Rattle.definition.specs.State.{State, state, active, laneAt, instrAt}
+use Rattle.definition.specs.Refuse.{mixed}
 use Rattle.definition.specs.Step.{stepOf}
 use Rattle.definition.specs.Calls.{launchedOf}
 use Rattle.definition.proofs.Computes.{computes}
 use Rattle.promises.specs.Bound.{launchOn}
 use Rattle.promises.specs.Lanes.{isActive, Has, SameLane, Agree, allBut, withFile, Alike, Touches, lane}
-use Rattle.promises.proofs.Lanes.{active-mask, active-below, kept, unwritten, all-but, unseen, unfelt, lane-alone}
+use Rattle.promises.specs.Written.{Becomes, LaneLeft}
+use Rattle.promises.proofs.Stores.{active-below}
+use Rattle.promises.proofs.Written.{written, lane-words, one-value, move-shares}
+use Rattle.promises.proofs.Lanes.{active-mask, kept, unwritten, all-but, unseen, unfelt, lane-alone}
 
 abbrev vreg : ℕ → VReg
 vreg r = record { 0 = r }
@@ -98,6 +103,42 @@ untouched (lane s k x y n l a h) = not-two l a h
 stays : getD (stepOf storing start .left .bytes) 2 0 ≡ 0
 unfolding start
 stays = unwritten storing start .1 2 untouched
+
+-- written: all four lanes at address 0, with the words 10 to 13. Lane 2, the highest active one, wins: not lane 0, and not lane 3, which is not active
+unfoldable together : State
+together =
+    state (launchedOf (launchOn 4 0b0101)) (writeLanes 4 (λ l. true) (vreg 2) (λ l. 10 + l) (replicate fileWords 0)) (replicate 8 0)
+
+highest : getD (stepOf storing together .left .bytes) 0 0 ≡ 12
+unfolding computes together
+highest = refl
+
+accepted : stepOf storing together .code ≡ 0
+unfolding computes together
+accepted = refl
+
+byte-of : Becomes together 0 0 12 (instrAt storing together)
+unfolding computes together
+byte-of = written storing together accepted 0
+
+-- lane-words: VID.V gives lane 2 of v3 its number, and v1 keeps its word there
+two-left : LaneLeft start (instrAt numbering start) 2 (stepOf numbering start .left .vector)
+unfolding computes start
+two-left = lane-words numbering start refl 2 refl
+
+-- one-value: the active lanes of v2 hold 7
+shared : mixed (laneOf (start .vector) (vreg 2)) start ≡ false
+unfolding computes start
+shared = refl
+
+seven : valueOf 4 (active start) (laneOf (start .vector) (vreg 2)) ≡ 7
+unfolding computes start
+seven = one-value start (laneOf (start .vector) (vreg 2)) .value shared 2 refl
+
+-- move-shares: VMV.X.S x5, v2
+moved-seven : getD (stepOf (0x422022d7 ∷ []) start .left .warp .x) 5 0 ≡ 7
+unfolding computes start
+moved-seven = move-shares (0x422022d7 ∷ []) start (x 5) (vreg 2) refl .value refl (λ e. omega arith) (lit≤ tt) 2 refl
 
 -- unseen, unfelt: lane 1's address outside the data
 unseen-there : Alike (isActive start) (stepOf storing start) (stepOf storing (withFile (changed 1 100) start))

@@ -1,5 +1,5 @@
 -- An inactive lane keeps its registers, writes no byte and influences nothing, and an active one no other lane's registers.
-use Prim.Native.Nat.{ℕ, _+_, _^_, _≤_, _<_}
+use Prim.Native.Nat.{ℕ, _^_, _≤_, _<_}
 use mathlib.Core.Path.{_≡_, refl, sym, ap, _∙_, subst₂}
 use mathlib.Core.Bool.{Bool, true, false, not, _&&_, _||_, true≢false}
 use mathlib.Core.List.{List, [], _∷_, _++_}
@@ -10,7 +10,7 @@ use lib.ListN.{length, getD, drop}
 use lib.Seq.{set-out}
 use borrow.Author.Tests.{ltb-true, ltb-false, lt-ltb, ne-eqb}
 use Rattle.answer.specs.Rows.{Row, first}
-use Rattle.answer.proofs.Rows.{both, every-at}
+use Rattle.answer.proofs.Rows.{every-at}
 use Rattle.isa.specs.declared.Instr.{Instr}
 use Rattle.isa.specs.declared.VReg.{VReg}
 use Rattle.lanes.specs.Lanes.{lanesMax, registers, fileWords, slotOf, writeLanes}
@@ -20,23 +20,20 @@ use Rattle.warp.specs.declared.Warp.{Warp}
 use Rattle.warp.specs.Warp.{aligned, splitCount}
 use Rattle.warp.specs.WellFormed.{fixedOkOf, allZero, chainOf, wellFormedOf}
 use Rattle.warp.specs.Chain.{chain-le}
-use Rattle.warp.specs.Formed.{FixedOk, fixed-ok}
-use Rattle.definition.specs.State.{State, Outcome, fixedOf, active, memoryOf, instrAt}
-use Rattle.definition.specs.Refuse.{runsOkOf, refusalsOf, stepTests, testsOf}
+use Rattle.definition.specs.State.{State, Outcome, fixedOf, active, instrAt}
+use Rattle.definition.specs.Refuse.{runsOkOf, stepTests, testsOf}
 use Rattle.definition.specs.Exec.{Effect, effect, effectOf}
 use Rattle.definition.specs.Step.{stepOf}
 use Rattle.definition.proofs.Sizes.{sizes, sizes-kept}
 use Rattle.definition.proofs.Sound.{step-clear, step-taken}
 use Rattle.definition.proofs.Target.{step-within}
-use Rattle.promises.specs.Lanes.{isActive, SameLane, Agree, allBut, withFile, Alike, Touches, ActiveMask, Kept, Unwritten, Unseen, Unfelt, LaneAlone}
+use Rattle.promises.specs.Lanes.{isActive, SameLane, Agree, allBut, withFile, Alike, ActiveMask, Kept, Unwritten, Unseen, Unfelt, LaneAlone}
 use Rattle.promises.proofs.Refusals.{is-zero, step-table, step-keeps}
-use Rattle.promises.proofs.Twins.{active-of, Same, Twin, moves, gives, saves, seen}
+use Rattle.promises.proofs.Stores.{active-of, becomes-stays}
+use Rattle.promises.proofs.Twins.{Same, Twin, moves, gives, saves, seen}
+use Rattle.promises.proofs.Written.{fixed-of, written}
 
 -- ---- active lanes
-
-fixed-of : (w : Warp) → wellFormedOf w ≡ true → FixedOk (w .fixed)
-unfolding wellFormedOf
-fixed-of w e = fixed-ok (w .fixed) (both (fixedOkOf (w .fixed)) _ e .0)
 
 pub active-mask : ActiveMask
 unfolding wellFormedOf
@@ -55,11 +52,6 @@ active-mask m e l = below (ltb l (fixedOf m .numt)) refl
     below : (t : Bool) → ltb l (fixedOf m .numt) ≡ t → (t && active m l) ≡ active m l
     below true t = refl
     below false t = sym (bit-above (w .mask) (w .fixed .numt) l small (omega (arith, ltb-false l (w .fixed .numt) t)))
-
-pub active-below : (m : State) (l : ℕ) → isActive m l ≡ true → (l < fixedOf m .numt) × (active m l ≡ true)
-active-below m l e =
-    let p = both (ltb l (fixedOf m .numt)) (active m l) e in
-    (ltb-true l (fixedOf m .numt) (p .0), p .1)
 
 inactive-bit : (m : State) (l : ℕ) → isActive m l ≡ false → l < fixedOf m .numt → active m l ≡ false
 inactive-bit m l e h = rw (lt-ltb l (fixedOf m .numt) h) at e
@@ -82,7 +74,7 @@ by-step k m P = by-both k m (m .vector) (λ n o. P n) refl
 
 kept-by : (m : State) (u : List ℕ) (i : Instr) (a b : Effect) → fixedOf m .numt ≤ lanesMax → (l : ℕ) → l < lanesMax → isActive m l ≡ false → Twin m u i a b → SameLane l (effect a m .vector) (m .vector)
 kept-by m u i a b n l h o (moves e) r = refl
-kept-by m u i a b n l h o (gives {r = c} {f = f} e) r = write-unwritten (active m) c f (m .vector) (fixedOf m .numt) n r l h (inactive-bit m l o)
+kept-by m u i a b n l h o (gives {r = c} {f = f} w e) r = write-unwritten (active m) c f (m .vector) (fixedOf m .numt) n r l h (inactive-bit m l o)
 kept-by m u i a b n l h o (saves t e) r = refl
 
 pub kept : Kept
@@ -90,17 +82,11 @@ kept k m l h o =
     by-step k m (λ n. SameLane l (n .vector) (m .vector)) (λ r. refl)
     (λ z. kept-by m (m .vector) _ _ _ (fixed-of (m .warp) (step-clear k m z .formed) .lanes .1) l h o (seen m (m .vector) (instrAt k m) .twin))
 
-unwritten-by : (m : State) (u : List ℕ) (i : Instr) (a b : Effect) → first (refusalsOf i m) ≡ 0 → Twin m u i a b
-    → (j : ℕ) → (Touches m (memoryOf m .base + j) i → ⊥) → getD (effect a m .bytes) j 0 ≡ getD (m .bytes) j 0
-unwritten-by m u i a b z (moves e) j o = refl
-unwritten-by m u i a b z (gives e) j o = refl
-unwritten-by m u i a b z (saves t e) j o = t z j o
-
 pub unwritten : Unwritten
 unwritten k m = (
   step-within k m .size,
-  λ j o. by-step k m (λ n. getD (n .bytes) j 0 ≡ getD (m .bytes) j 0) refl
-      (λ z. unwritten-by m (m .vector) _ _ _ (step-clear k m z .rest) (seen m (m .vector) (instrAt k m) .twin) j o),
+  λ j o. is-zero (stepOf k m .code) (λ z. becomes-stays m _ _ _ _ (written k m z j) o)
+      (λ n. ap (λ (s : Outcome). getD (s .left .bytes) j 0) (step-keeps k m n)),
 )
 
 -- ---- what a lane depends on
@@ -124,7 +110,7 @@ module _ (k : List ℕ) (m : State) (u : List ℕ) (long : length (m .vector) �
   alone : (i : Instr) (a b : Effect) → stepOf k m .code ≡ 0 → (l : ℕ) → l < lanesMax → SameLane l (m .vector) u → Twin m u i a b
       → SameLane l (effect a m .vector) (effect b (withFile u m) .vector)
   alone i a b z l h s (moves e) = s
-  alone i a b z l h s (gives {r = c} {f = f} {g = g} e) =
+  alone i a b z l h s (gives {r = c} {f = f} {g = g} w e) =
       let t = step-clear k m z in
       let n = sizes (fixedOf m) k (m .vector) (m .bytes) (t .runs) .file-is in
       write-alike (fixedOf m .numt) (active m) c f g (m .vector) u l (fixed-of (m .warp) (t .formed) .lanes .1) n (sym long ∙ n) h (e l s) s
@@ -144,7 +130,7 @@ module _ (k : List ℕ) (m : State) (u : List ℕ) (long : length (m .vector) �
 
     equal : (i : Instr) (a b : Effect) → Same m u → Twin m u i a b → (effect a m .warp ≡ effect b (withFile u m) .warp) × (effect a m .bytes ≡ effect b (withFile u m) .bytes)
     equal i a b s (moves e) = (e s, refl)
-    equal i a b s (gives e) = (refl, refl)
+    equal i a b s (gives w e) = (refl, refl)
     equal i a b s (saves t e) = (refl, e s)
 
     left-same : (stepOf k m .left .warp ≡ stepOf k (withFile u m) .left .warp) × (stepOf k m .left .bytes ≡ stepOf k (withFile u m) .left .bytes)

@@ -22,7 +22,7 @@ use Rattle.definition.specs.Calls.{launchedOf, launchOf}
 use Rattle.definition.proofs.Sizes.{sizes, sizes-kept}
 use Rattle.definition.proofs.Sound.{step-sound}
 use Rattle.definition.proofs.Target.{step-within}
-use Rattle.promises.specs.Reached.{Goes, steps, releases, launched, goes, Sound, ReachedSound, NeverMalformed}
+use Rattle.promises.specs.Reached.{Goes, steps, releases, changes, launched, goes, Sound, ReachedSound, NeverMalformed}
 use Rattle.promises.proofs.Refusals.{step-refusals, launch-refusals, release-refusals}
 
 -- what neither 1 nor 2 refuses
@@ -80,6 +80,15 @@ carried k s t g (releases q) =
       words = refl;
       size = refl;
     })
+carried k s t g (changes v d) =
+    record {
+      formed = formed (s .warp) (g .splits) (g .formed);
+      moves = leaves (record { splits = refl; depth = refl; mask = refl; fixed = refl });
+      fixed = refl;
+      registers = refl;
+      words = v;
+      size = d;
+    }
 
 pub goes-fit : (k : List ℕ) (s t : State) → Fit k s → Goes k s t → Fit k t
 goes-fit k s t g n =
@@ -135,12 +144,13 @@ refuted : (t : Bool) → t ≡ true → not t ≡ true → ⊥
 refuted true e n = true≢false (sym n)
 refuted false e n = true≢false (sym e)
 
+pub unrefused : (k : List ℕ) (s : State) → Fit k s → (stepOf k s .code ≡ 1 → ⊥) × (stepOf k s .code ≡ 2 → ⊥)
+unrefused k s f =
+    let t = step-refusals k s in
+    (λ e. refuted _ (f .runs) (t .row1 .0 e .1), λ e. refuted _ (f .formed) (t .row2 .0 e .1))
+
 pub never-malformed : NeverMalformed
 never-malformed k l s r =
     let g : Sound k l s = reached-sound k l s r in
-    let t = step-refusals k s in
-    record {
-      step1 = λ e. refuted _ (g .runs) (t .row1 .0 e .1);
-      step2 = λ e. refuted _ (g .formed) (t .row2 .0 e .1);
-      release2 = λ e. true≢false (sym (g .formed) ∙ release-refusals (s .warp) .row2 .0 e);
-    }
+    let u = unrefused k s (fit k l s g) in
+    record { step1 = u .0; step2 = u .1; release2 = λ e. true≢false (sym (g .formed) ∙ release-refusals (s .warp) .row2 .0 e) }

@@ -18,9 +18,9 @@ use Rattle.definition.specs.Step.{stepOf}
 use Rattle.definition.specs.Calls.{Ran, ran, stepsOf, runOf}
 use Rattle.definition.proofs.Calls.{turn-end, turn-on, turn-off}
 use Rattle.promises.specs.Reached.{steps, Reached, goes}
-use Rattle.promises.specs.Runs.{tested, Steps, start, more, Iterates, RunIterates, RunTests, RunZero, StepsFixed, RunFixed, RunMore, RunReaches}
+use Rattle.promises.specs.Runs.{tested, Steps, start, more, Iterates, RunIterates, RunTests, RunZero, StepsFixed, RunFixed, RunMore, RunPasses, RunReaches}
 use Rattle.promises.proofs.Refusals.{is-zero, step-keeps}
-use Rattle.promises.proofs.Reached.{Fit, fit, goes-fit, reached-sound, never-malformed}
+use Rattle.promises.proofs.Reached.{Fit, fit, goes-fit, unrefused, reached-sound}
 
 -- a step answered 0
 answered : (k : List ℕ) (s : State) → stepOf k s .code ≡ 0 → stepOf k s ≡ outcome 0 (stepOf k s .left)
@@ -38,7 +38,7 @@ module _ (k : List ℕ) where
 -- ---- a run
 
 module _ (k : List ℕ) (n : ℕ) (s : State) where
-  run-on : tested k s ≡ 0 → runOf k n s ≡ stepsOf k n 0 s
+  pub run-on : tested k s ≡ 0 → runOf k n s ≡ stepsOf k n 0 s
   unfolding runOf
   run-on z = rw (eq-eqb _ _ z)
 
@@ -58,14 +58,14 @@ run-zero k s = is-zero (tested k s) (λ z. run-on k 0 s z ∙ turn-end k 0 s ∙
 -- ---- the state after each count
 
 module _ (k : List ℕ) where
-  turns-more : (n m t : ℕ) (s : State) → stepsOf k n t s .ends .code ≡ 0 → stepsOf k (n + m) t s ≡ stepsOf k m (stepsOf k n t s .steps) (stepsOf k n t s .ends .left)
+  pub turns-more : (n m t : ℕ) (s : State) → stepsOf k n t s .ends .code ≡ 0 → stepsOf k (n + m) t s ≡ stepsOf k m (stepsOf k n t s .steps) (stepsOf k n t s .ends .left)
   turns-more zero m t s h = rw (turn-end k t s, zero-add)
   turns-more (suc n) m t s h =
       is-zero (stepOf k s .code)
       (λ z. rw (suc-add n m, turn-on k (n + m) t s z, turn-on k n t s z) (turns-more n m (t + 1) (stepOf k s .left) (rw (turn-on k n t s z) at h)))
       (λ z. absurd (z (rw (turn-off k n t s z) at h)))
 
-  turns-fixed : (t : ℕ) (s u : State) → Steps k t s u → stepsOf k t 0 s ≡ ran t (outcome 0 u)
+  pub turns-fixed : (t : ℕ) (s u : State) → Steps k t s u → stepsOf k t 0 s ≡ ran t (outcome 0 u)
   turns-fixed t s u start = turn-end k 0 s
   turns-fixed t s u (more {t = n} {u = x} p q) =
       let h : stepsOf k n 0 s ≡ ran n (outcome 0 x) = turns-fixed n s x p in
@@ -112,6 +112,17 @@ run-more k n m s long h =
     let e : runOf k n s ≡ stepsOf k n 0 s = run-on k n s z in
     run-on k (n + m) s z ∙ turns-more k n m 0 s (rw e at h) ∙ rw (← e, run-on k m u y) (rw (add-zero (runOf k n s .steps)) at (shifted k m (runOf k n s .steps) 0 u))
 
+-- ---- a run that passes its tests
+
+pub run-passes : RunPasses
+run-passes k n s long z =
+    let i = run-iterates k n s z in
+    let u = unrefused k _ (steps-fit k (runOf k n s .steps) s _ (tested-fit k s long z) (i .taken)) in
+    record {
+      not1 = λ e. u .0 (ap (λ (o : Outcome). o .code) (i .refused (λ z. omega arith)) ∙ e);
+      not2 = λ e. u .1 (ap (λ (o : Outcome). o .code) (i .refused (λ z. omega arith)) ∙ e);
+    }
+
 -- ---- a run from a reached state
 
 steps-reached : (k : List ℕ) (l : Launch) (t : ℕ) (s u : State) → Reached k l s → Steps k t s u → Reached k l u
@@ -120,11 +131,6 @@ steps-reached k l t s u r (more {t = n} {u = x} p q) = goes (steps-reached k l n
 
 pub run-reaches : RunReaches
 run-reaches k l n s r =
-    let i = run-iterates k n s (fit-tested k s (fit k l s (reached-sound k l s r))) in
-    let h : Reached k l (runOf k n s .ends .left) = steps-reached k l (runOf k n s .steps) s _ r (i .taken) in
-    let a = never-malformed k l _ h in
-    record {
-      reached = h;
-      not1 = λ e. a .step1 (ap (λ (o : Outcome). o .code) (i .refused (λ z. omega arith)) ∙ e);
-      not2 = λ e. a .step2 (ap (λ (o : Outcome). o .code) (i .refused (λ z. omega arith)) ∙ e);
-    }
+    let g = reached-sound k l s r in
+    let z : tested k s ≡ 0 = fit-tested k s (fit k l s g) in
+    record { reached = steps-reached k l (runOf k n s .steps) s _ r (run-iterates k n s z .taken); passes = run-passes k n s (g .splits) z }

@@ -14,6 +14,7 @@ use Rattle.isa.specs.declared.VReg.{VReg}
 use Rattle.isa.specs.declared.Instr.{Instr}
 use Rattle.isa.specs.declared.Instr.the-variants as I
 use Rattle.lanes.specs.Mask.{bitAt}
+use Rattle.lanes.specs.MaskLaws.{part-in}
 use Rattle.warp.specs.declared.Launch.{Launch}
 use Rattle.warp.specs.declared.Split.{Split}
 use Rattle.warp.specs.declared.Warp.{Warp}
@@ -22,13 +23,14 @@ use Rattle.warp.specs.Splits.{opened, openOf, parted, lastSplit, joinOf, setRpc
 use Rattle.warp.specs.SplitLaws.{by-cond, parted-opens}
 use Rattle.warp.specs.Csr.{isPrint, writesOf, csrAt, csrDone}
 use Rattle.warp.specs.Moves as M
-use Rattle.warp.specs.Formed.{formed, depth-le, held-of}
+use Rattle.warp.specs.Formed.{Formed, formed, depth-le, held-of, mask-small}
 use Rattle.definition.specs.State.{State, Outcome, outcome, pcBy, xOf, elseOf, instrAt}
 use Rattle.definition.specs.Exec.{effect, effectOf}
 use Rattle.definition.specs.Step.{stepOf}
 use Rattle.definition.proofs.Sound.{step-taken}
 use Rattle.promises.specs.Reached.{steps, Sound}
-use Rattle.promises.specs.Splits.{Disagree, Opens, SplitCuts, SplitWhen, Covered, Fewer, Room, OneLane, Above, here, on, Restored}
+use Rattle.promises.specs.Splits.{Disagree, Opens, Near, OneAtMost, SplitCuts, SplitWhen, Covered, Fewer, AtMost, Room, OneLane, Above, here, on, Restored}
+use Rattle.promises.proofs.Refusals.{is-zero, step-keeps}
 use Rattle.promises.proofs.Reached.{fit, carried, goes-sound, reached-sound}
 
 held-at : (k : List ℕ) (l : Launch) (s : State) → Sound k l s → M.Held (s .warp)
@@ -46,17 +48,20 @@ fewer k l s r =
     let g : Sound k l s = reached-sound k l s r in
     rw (← g .fixed) (M.splits-fewer (s .warp) (held-at k l s g))
 
+pub at-most : AtMost
+at-most k l s r = depth-le (s .warp) (reached-sound k l s r .formed)
+
 pub room : Room
-room k l s r = depth-le (s .warp) (reached-sound k l s r .formed)
+room k l s r x =
+    let g : Sound k l s = reached-sound k l s r in
+    let f : Formed (s .warp) = formed (s .warp) (g .splits) (g .formed) in
+    M.fits (elseOf (x .cond) (x .left) (x .right) s) 0 (s .warp) (held-of (s .warp) f)
+    (record { within = part-in (s .warp .mask) (s .warp .fixed .numt) _ (mask-small (s .warp) f); some = x .some; strict = x .notall; aligned = refl })
 
 pub one-lane : OneLane
 one-lane k l s r o = omega (arith, fewer k l s r)
 
 -- ---- which instruction opens a split
-
-data Opener (s : State) (i : Instr) (u : Warp) : Type 0 where
-  none : u .depth ≤ s .warp .depth → Opener s i u
-  branch : (c : Cond) (a b : VReg) (n : ℕ) → i ≡ I.VBranch c a b n → u ≡ openOf (elseOf c a b s) (pcBy 13 n s) (s .warp) → Opener s i u
 
 -- JOIN closes one split at most
 record Joined (before after : ℕ) : Type 0 where
@@ -74,12 +79,16 @@ joined w =
     same : Joined (w .depth) (w .depth)
     same = record { most = omega arith; least = omega arith }
 
+data Opener (s : State) (i : Instr) (u : Warp) : Type 0 where
+  none : Joined (s .warp .depth) (u .depth) → Opener s i u
+  branch : (c : Cond) (a b : VReg) (n : ℕ) → i ≡ I.VBranch c a b n → u ≡ openOf (elseOf c a b s) (pcBy 13 n s) (s .warp) → Opener s i u
+
 module _ (s : State) where
   abbrev W : Warp
   W = s .warp
 
   stays : (i : Instr) (u : Warp) → u .depth ≡ W .depth → Opener s i u
-  stays i u e = none (omega arith)
+  stays i u e = none (record { most = omega arith; least = omega arith })
 
   csr : (i : Instr) (o : CsrOp) (n : ℕ) (r : XReg) (a y : ℕ) → Opener s i (csrDone o n r a y W)
   unfolding csrDone
@@ -118,7 +127,7 @@ module _ (s : State) where
   opener (I.VMoveSX r a) = stays _ _ refl
   opener (I.Vid r) = stays _ _ refl
   opener (I.VBranch c a b n) = vbranch c a b n
-  opener I.Join = none (joined W .most)
+  opener I.Join = none (joined W)
   opener (I.SetRpc r a n) = setrpc _ r a n
   opener I.EndPrg = stays _ _ refl
   opener (I.Barrier n) = stays _ _ refl
@@ -131,7 +140,7 @@ module _ (s : State) where
 data Widens (w u : Warp) : Type 0 where
   widens : (e p : ℕ) → M.Cuts e p w → u ≡ openOf e p w → Widens w u
 
-widening : (w u : Warp) → M.Moves w u → u .depth ≡ w .depth + 1 → Widens w u
+widening : (w u : Warp) → M.Moves w u → w .depth < u .depth → Widens w u
 widening w u (M.opens e p c q) d = widens e p c q
 widening w u (M.joins q) d = absurd (omega (arith, ap (λ (x : Warp). x .depth) q, joined w .most))
 widening w u (M.leaves x) d = absurd (omega (arith, x .depth))
@@ -153,7 +162,7 @@ module _ (k : List ℕ) (l : Launch) (s t : State) (g : Sound k l s) (q : stepOf
   done : t .warp ≡ effect (effectOf (instrAt k s) s) s .warp
   done = ap (λ (o : Outcome). o .left .warp) (sym q) ∙ ap (λ (m : State). m .warp) (step-taken k s (ap (λ (o : Outcome). o .code) q))
 
-  module _ (d : t .warp .depth ≡ s .warp .depth + 1) where
+  module _ (d : s .warp .depth < t .warp .depth) where
     wide : Widens (s .warp) (t .warp)
     wide = widening (s .warp) (t .warp) (carried k s t (fit k l s g) (steps q) .moves) d
 
@@ -161,7 +170,7 @@ module _ (k : List ℕ) (l : Launch) (s t : State) (g : Sound k l s) (q : stepOf
     cuts-in-two (widens e p c u) = (M.fits e p (s .warp) (held-at k l s g) c, rw u (M.split-cuts e p (s .warp) (held-at k l s g) c))
 
     opens : Opener s (instrAt k s) (t .warp) → Opens k s t
-    opens (none n) = absurd (omega arith)
+    opens (none n) = absurd (omega (arith, n .most))
     opens (branch c a b n i u) =
         let m = cuts-in-two wide in
         let o : Opened (elseOf c a b s) (pcBy 13 n s) (s .warp) (t .warp) = rw u (opening (elseOf c a b s) (pcBy 13 n s) (s .warp)) in
@@ -177,6 +186,15 @@ module _ (k : List ℕ) (l : Launch) (s t : State) (g : Sound k l s) (q : stepOf
     opens-at : Opens k s t
     opens-at = opens (rw done (opener s (instrAt k s)))
 
+pub one-at-most : OneAtMost
+one-at-most k s = is-zero (stepOf k s .code) (λ z. rw (step-taken k s z) (near (opener s (instrAt k s)))) (λ n. rw (step-keeps k s n) (record { most = omega arith; least = omega arith }))
+  where
+    near : {i : Instr} {u : Warp} → Opener s i u → Near (s .warp .depth) (u .depth)
+    near (none j) = record { most = omega (arith, j .most); least = j .least }
+    near (branch c a b n i e) =
+        let d = ap (λ (x : Warp). x .depth) e ∙ opening (elseOf c a b s) (pcBy 13 n s) (s .warp) .depth in
+        record { most = omega arith; least = omega arith }
+
 pub split-cuts : SplitCuts
 split-cuts k l s t r q d = opens-at k l s t (reached-sound k l s r) q d
 
@@ -187,14 +205,17 @@ parts c a b n s = refl
 pub split-when : SplitWhen
 split-when k l s t r q = ((λ d. split-cuts k l s t r q d .by), widened)
   where
-    widened : Disagree k s → t .warp .depth ≡ s .warp .depth + 1
-    widened x =
+    one-more : Disagree k s → t .warp .depth ≡ s .warp .depth + 1
+    one-more x =
         ap (λ (u : Warp). u .depth) (
         done k l s t (reached-sound k l s r) q
         ∙ ap (λ (i : Instr). effect (effectOf i s) s .warp) (x .word)
         ∙ parts (x .cond) (x .left) (x .right) (x .offset) s
         ∙ sym (parted-opens _ _ (s .warp) (x .some) (x .notall)))
         ∙ opening _ _ (s .warp) .depth
+
+    widened : Disagree k s → s .warp .depth < t .warp .depth
+    widened x = omega (arith, one-more x)
 
 -- ---- the mask comes back
 

@@ -9,4 +9,4 @@ trace-words = (refl, (refl, (refl, tt)))
 
 pub trace-cards : TraceCards
 unfolding computes
-trace-cards = (refl, (refl, (refl, (refl, (refl, (refl, (refl, (refl, (refl, (refl, (refl, (refl, (refl, (refl, (refl, (refl, (refl, tt)))))))))))))))))
+trace-cards = (refl, (refl, (refl, (refl, (refl, (refl, (refl, (refl, (refl, (refl, (refl, (refl, (refl, (refl, (refl, (refl, (refl, (refl, tt))))))))))))))))))

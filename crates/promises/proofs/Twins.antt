@@ -1,13 +1,11 @@
 -- An instruction at two vector files: what its tests and its effect look at, lane by lane.
 use Prim.Native.Nat.{ℕ, _+_, _<_}
-use mathlib.Core.Path.{_≡_, refl, sym, ap, _∙_}
+use mathlib.Core.Path.{_≡_, refl, ap, _∙_}
 use mathlib.Core.Bool.{Bool, true, not, _&&_}
 use mathlib.Core.List.{List, [], _∷_}
 use lib.Dec.{eqb}
 use lib.ListN.{getD}
-use borrow.Author.Tests.{lt-ltb}
 use Rattle.answer.specs.Rows.{Row, _⇒_, first}
-use Rattle.answer.proofs.Rows.{passed}
 use Rattle.isa.specs.declared.Instr.{Instr}
 use Rattle.isa.specs.declared.Instr.the-variants as I
 use Rattle.isa.specs.declared.Source.{Source}
@@ -18,35 +16,33 @@ use Rattle.lanes.specs.Lanes.{laneOf, operandOf, opLane}
 use Rattle.lanes.specs.declared.Operand.{Operand}
 use Rattle.lanes.specs.Laws.{lane-only, operand-only, uniform-only, value-only}
 use Rattle.lanes.specs.MaskLaws.{wants-only}
-use Rattle.memory.specs.Memory.{sizeOf, widthOf, insideOf}
+use Rattle.memory.specs.Memory.{sizeOf, widthOf}
 use Rattle.memory.specs.LaneAccess.{allInside}
-use Rattle.memory.proofs.Access.{inside-address, all-inside-at}
-use Rattle.memory.proofs.Laws.{address-only, inside-only, store-unwritten, store-only, lanes-unwritten}
+use Rattle.memory.proofs.Laws.{address-only, inside-only, store-only}
 use Rattle.warp.specs.declared.Warp.{Warp}
 use Rattle.warp.specs.Warp.{next, writeX}
 use Rattle.warp.specs.Splits.{parted}
-use Rattle.definition.specs.State.{State, fixedOf, active, pcBy, memoryOf, scalarAt, laneAt, privateIn, elseOf}
+use Rattle.definition.specs.State.{State, fixedOf, active, pcBy, memoryOf, laneAt, privateIn, elseOf}
 use Rattle.definition.specs.Refuse.{astray, refusalsOf}
 use Rattle.definition.specs.Exec.{Effect, goes, writes, stores, effectOf, sourceOf, loaded}
-use Rattle.promises.specs.Lanes.{isActive, SameLane, withFile, Touches, scalar, lane}
-
-pub active-of : (m : State) (l : ℕ) → l < fixedOf m .numt → active m l ≡ true → isActive m l ≡ true
-active-of m l h t = rw (lt-ltb l (fixedOf m .numt) h, t)
+use Rattle.promises.specs.Lanes.{SameLane, withFile}
+use Rattle.promises.specs.Written.{Becomes, Gives, operation, move, scalar, number, load}
+use Rattle.promises.proofs.Stores.{scalar-becomes, lanes-become}
 
 module _ (m : State) (u : List ℕ) where
   -- the files are the same in every active lane
   abbrev pub Same : Type 0
   Same = (l : ℕ) → l < fixedOf m .numt → active m l ≡ true → SameLane l (m .vector) u
 
-  -- where no test of i holds, the bytes d are those before wherever i's store does not touch
-  abbrev pub Stays : Instr → List ℕ → Type 0
-  Stays i d = first (refusalsOf i m) ≡ 0 → (j : ℕ) → (Touches m (memoryOf m .base + j) i → ⊥) → getD d j 0 ≡ getD (m .bytes) j 0
+  -- where no test of i holds, the bytes d are what i's store makes of those before
+  abbrev pub Leaves : Instr → List ℕ → Type 0
+  Leaves i d = first (refusalsOf i m) ≡ 0 → (j : ℕ) → Becomes m (memoryOf m .base + j) (getD (m .bytes) j 0) (getD d j 0) i
 
   -- i's effect with the file of m, and with u
   pub data Twin (i : Instr) : Effect → Effect → Type 0 where
     moves : {a b : Warp} → (Same → a ≡ b) → Twin i (goes a) (goes b)
-    gives : {r : VReg} {f g : ℕ → ℕ} → ((l : ℕ) → SameLane l (m .vector) u → f l ≡ g l) → Twin i (writes (active m) r f) (writes (active m) r g)
-    saves : {d e : List ℕ} → Stays i d → (Same → d ≡ e) → Twin i (stores d) (stores e)
+    gives : {r : VReg} {f g : ℕ → ℕ} → ((l : ℕ) → Gives m l i r (f l)) → ((l : ℕ) → SameLane l (m .vector) u → f l ≡ g l) → Twin i (writes (active m) r f) (writes (active m) r g)
+    saves : {d e : List ℕ} → Leaves i d → (Same → d ≡ e) → Twin i (stores d) (stores e)
 
   -- and its rows
   pub record Seen (i : Instr) (rs us : List (Row Bool)) (a b : Effect) : Type 0 where
@@ -57,8 +53,8 @@ module _ (m : State) (u : List ℕ) where
   idle : {i : Instr} {rs : List (Row Bool)} {a : Warp} → Seen i rs rs (goes a) (goes a)
   idle = record { rows = λ s. refl; twin = moves (λ s. refl) }
 
-  fills : {i : Instr} {r : VReg} {f g : ℕ → ℕ} → ((l : ℕ) → SameLane l (m .vector) u → f l ≡ g l) → Seen i [] [] (writes (active m) r f) (writes (active m) r g)
-  fills o = record { rows = λ s. refl; twin = gives o }
+  fills : {i : Instr} {r : VReg} {f g : ℕ → ℕ} → ((l : ℕ) → Gives m l i r (f l)) → ((l : ℕ) → SameLane l (m .vector) u → f l ≡ g l) → Seen i [] [] (writes (active m) r f) (writes (active m) r g)
+  fills w o = record { rows = λ s. refl; twin = gives w o }
 
   -- a scalar register or an immediate is the same with any file
   source-same : (e : Source) → sourceOf e m ≡ sourceOf e (withFile u m)
@@ -91,25 +87,22 @@ module _ (m : State) (u : List ℕ) where
   seen (I.Store k a b n) =
       record {
         rows = λ s. refl;
-        twin = saves
-            (λ h j o. store-unwritten k (scalarAt a n m) _ (memoryOf m) j (λ p q. o (scalar k a b n
-            (inside-address (memoryOf m) (widthOf k) (scalarAt a n m) (passed [] [] 9 (insideOf (memoryOf m) (widthOf k) (scalarAt a n m)) refl h) j p q))))
-            (λ s. refl);
+        twin = saves (λ h j. scalar-becomes m j k a b n h) (λ s. refl);
       }
   seen (I.OpImm o r a n) = idle
   seen (I.OpReg o r a b) = idle
   seen (I.Fence r a n) = idle
   seen (I.Csr o r a n) = idle
   seen (I.CsrImm o r i n) = idle
-  seen (I.Vector o a) = fills (λ l s. lane-only l (m .vector) u s o (a .vs2) (sourceOf (a .src) m) ∙ ap (λ (b : Operand). opLane o u (a .vs2) b l) (source-same (a .src)))
-  seen (I.VMove r e) = fills (λ l s. operand-only l (m .vector) u s (sourceOf e m) ∙ ap (λ (b : Operand). operandOf u b l) (source-same e))
+  seen (I.Vector o a) = fills (λ l. operation o a) (λ l s. lane-only l (m .vector) u s o (a .vs2) (sourceOf (a .src) m) ∙ ap (λ (b : Operand). opLane o u (a .vs2) b l) (source-same (a .src)))
+  seen (I.VMove r e) = fills (λ l. move r e) (λ l s. operand-only l (m .vector) u s (sourceOf e m) ∙ ap (λ (b : Operand). operandOf u b l) (source-same e))
   seen (I.VMoveXS r b) =
       record {
         rows = λ s. ap (λ (t : Bool). 10 ⇒ not t ∷ []) (uniform-only (fixedOf m .numt) (active m) (laneOf (m .vector) b) (laneOf u b) (λ l h t. s l h t b));
         twin = moves (λ s. ap (λ (y : ℕ). next (writeX r y (m .warp))) (value-only (fixedOf m .numt) (active m) (laneOf (m .vector) b) (laneOf u b) (λ l h t. s l h t b)));
       }
-  seen (I.VMoveSX r a) = fills (λ l s. refl)
-  seen (I.Vid r) = fills (λ l s. refl)
+  seen (I.VMoveSX r a) = fills (λ l. scalar r a) (λ l s. refl)
+  seen (I.Vid r) = fills (λ l. number r) (λ l s. refl)
   seen (I.VBranch c a b n) =
       let e : Same → elseOf c a b m ≡ elseOf c a b (withFile u m) = λ s. wants-only (m .warp .mask) (fixedOf m .numt) c a b (m .vector) u s in
       record {
@@ -120,14 +113,12 @@ module _ (m : State) (u : List ℕ) where
   seen (I.SetRpc r a n) = idle
   seen I.EndPrg = idle
   seen (I.Barrier n) = idle
-  seen (I.VLoad e k r a n) = record { rows = λ s. ap nine (inside-same e a n (sizeOf k) s); twin = gives (λ l s. ap (λ (x : ℕ). loaded k x m) (at-same e a n l s)) }
+  seen (I.VLoad e k r a n) = record { rows = λ s. ap nine (inside-same e a n (sizeOf k) s); twin = gives (λ l. load e k r a n) (λ l s. ap (λ (x : ℕ). loaded k x m) (at-same e a n l s)) }
   seen (I.VStore e k a b n) =
       record {
         rows = λ s. ap nine (inside-same e a n (widthOf k) s);
         twin = saves
-            (λ h j o. lanes-unwritten (fixedOf m .numt) (active m) k (laneAt e a n m) _ (memoryOf m) j (λ l c t p q. o (lane e k a b n l (active-of m l c t)
-            (inside-address (memoryOf m) (widthOf k) (laneAt e a n m l)
-            (all-inside-at (fixedOf m .numt) (active m) (memoryOf m) (widthOf k) (laneAt e a n m) (sym (passed [] [] 9 (inside e a n (widthOf k) m) refl h)) l c t) j p q))))
+            (λ h j. lanes-become m j e k a b n h)
             (λ s. store-only (fixedOf m .numt) (active m) (memoryOf m) (laneAt e a n m) (laneAt e a n (withFile u m)) (λ l h t. at-same e a n l (s l h t)) k
             (laneOf (m .vector) b) (laneOf u b) (λ l h t. s l h t b));
       }

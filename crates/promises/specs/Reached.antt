@@ -1,4 +1,4 @@
--- What a machine reaches: an accepted launch, and then any number of taken steps and answered releases, over any kernel and any data.
+-- What a machine reaches: an accepted launch, and then any number of taken steps, answered releases and changes by the host, over any kernel and any data.
 use Prim.Native.Nat.{ℕ}
 use mathlib.Core.Path.{_≡_}
 use mathlib.Core.Bool.{true}
@@ -13,10 +13,11 @@ use Rattle.definition.specs.Refuse.{runsOkOf}
 use Rattle.definition.specs.Step.{stepOf}
 use Rattle.definition.specs.Calls.{launchOf, releaseOf}
 
--- from s on: a step that was taken, or a release that was answered 0
+-- from s on: a step that was taken; a release that was answered 0; the host changes the contents of vector file and data between two calls, and no size
 pub data Goes (k : List ℕ) (s : State) : State → Type 0 where
   steps : {t : State} → stepOf k s ≡ outcome 0 t → Goes k s t
   releases : {w : Warp} → releaseOf (s .warp) ≡ answered 0 w → Goes k s (state w (s .vector) (s .bytes))
+  changes : {v d : List ℕ} → length v ≡ length (s .vector) → length d ≡ length (s .bytes) → Goes k s (state (s .warp) v d)
 
 -- what the launch l reaches with the kernel k
 pub data Reached (k : List ℕ) (l : Launch) : State → Type 0 where

@@ -60,11 +60,18 @@ RunMore =
     (k : List ℕ) (n m : ℕ) (s : State) → length (s .warp .splits) ≡ splitCount → runOf k n s .ends .code ≡ 0
     → runOf k (n + m) s ≡ followedBy (runOf k n s) (runOf k m (runOf k n s .ends .left))
 
+-- Refusals 1 and 2 come only before a run's first step: a run from any state that passes their tests, reached or not, is never refused with them.
+pub record Passes (r : Ran) : Type 0 where
+  pub not1 : r .ends .code ≡ 1 → ⊥
+  pub not2 : r .ends .code ≡ 2 → ⊥
+
+abbrev pub RunPasses : Type 0
+RunPasses = (k : List ℕ) (n : ℕ) (s : State) → length (s .warp .splits) ≡ splitCount → tested k s ≡ 0 → Passes (runOf k n s)
+
 -- What a run leaves of a reached state is reached, and a run from there is never refused with 1 or 2.
 pub record Stays (k : List ℕ) (l : Launch) (r : Ran) : Type 0 where
   pub reached : Reached k l (r .ends .left)
-  pub not1 : r .ends .code ≡ 1 → ⊥
-  pub not2 : r .ends .code ≡ 2 → ⊥
+  pub passes : Passes r
 
 abbrev pub RunReaches : Type 0
 RunReaches = (k : List ℕ) (l : Launch) (n : ℕ) (s : State) → Reached k l s → Stays k l (runOf k n s)

@@ -1,4 +1,4 @@
--- Demand 3, the splits: over reached states, and over taken steps and answered releases.
+-- Demand 3, the splits: over reached states, and over taken steps, answered releases and the host's changes of vector file and data.
 use Prim.Native.Nat.{ℕ, _+_, _≤_, _<_}
 use mathlib.Core.Path.{_≡_}
 use mathlib.Core.List.{List}
@@ -39,13 +39,21 @@ pub record Opens (k : List ℕ) (s t : State) : Type 0 where
 
 -- ---- promises
 
--- A split cuts the active mask in two.
+-- A step, of a reached state or not, opens one split at most and closes one at most.
+pub record Near (before after : ℕ) : Type 0 where
+  pub most : after ≤ before + 1
+  pub least : before ≤ after + 1
+
+abbrev pub OneAtMost : Type 0
+OneAtMost = (k : List ℕ) (s : State) → Near (s .warp .depth) (stepOf k s .left .warp .depth)
+
+-- A split cuts the active mask in two: wherever the count of open splits rises.
 abbrev pub SplitCuts : Type 0
-SplitCuts = (k : List ℕ) (l : Launch) (s t : State) → Reached k l s → stepOf k s ≡ outcome 0 t → t .warp .depth ≡ s .warp .depth + 1 → Opens k s t
+SplitCuts = (k : List ℕ) (l : Launch) (s t : State) → Reached k l s → stepOf k s ≡ outcome 0 t → s .warp .depth < t .warp .depth → Opens k s t
 
 -- A taken step opens a split when, and only when, the active lanes disagree over a VBRANCH.
 abbrev pub SplitWhen : Type 0
-SplitWhen = (k : List ℕ) (l : Launch) (s t : State) → Reached k l s → stepOf k s ≡ outcome 0 t → Iff (t .warp .depth ≡ s .warp .depth + 1) (Disagree k s)
+SplitWhen = (k : List ℕ) (l : Launch) (s t : State) → Reached k l s → stepOf k s ≡ outcome 0 t → Iff (s .warp .depth < t .warp .depth) (Disagree k s)
 
 -- Each launched lane is active or parked in just one open split, and no other lane is either.
 abbrev pub Covered : Type 0
@@ -57,15 +65,19 @@ Covered =
 abbrev pub Fewer : Type 0
 Fewer = (k : List ℕ) (l : Launch) (s : State) → Reached k l s → s .warp .depth < ones (l .fixed .launchmask)
 
--- There is room for every split that opens.
+-- No more splits are open than there are records.
+abbrev pub AtMost : Type 0
+AtMost = (k : List ℕ) (l : Launch) (s : State) → Reached k l s → s .warp .depth ≤ splitCount
+
+-- There is room for every split that opens: where the active lanes disagree over a VBRANCH, a record is free.
 abbrev pub Room : Type 0
-Room = (k : List ℕ) (l : Launch) (s : State) → Reached k l s → s .warp .depth ≤ splitCount
+Room = (k : List ℕ) (l : Launch) (s : State) → Reached k l s → Disagree k s → s .warp .depth < splitCount
 
 -- One launched lane never opens a split.
 abbrev pub OneLane : Type 0
 OneLane = (k : List ℕ) (l : Launch) (s : State) → Reached k l s → ones (l .fixed .launchmask) ≡ 1 → s .warp .depth ≡ 0
 
--- any number of taken steps and answered releases from s to t, through all of which more than n splits are open
+-- any number of taken steps, answered releases and changes by the host from s to t, through all of which more than n splits are open
 pub data Above (k : List ℕ) (n : ℕ) : State → State → Type 0 where
   here : {s : State} → n < s .warp .depth → Above k n s s
   on : {s t u : State} → Above k n s t → Goes k t u → n < u .warp .depth → Above k n s u
@@ -74,6 +86,6 @@ pub data Above (k : List ℕ) (n : ℕ) : State → State → Type 0 where
 -- up to b it stays open, and from b to t the count falls.
 abbrev pub Restored : Type 0
 Restored =
-    (k : List ℕ) (l : Launch) (s a b t : State) → Reached k l s → stepOf k s ≡ outcome 0 a → a .warp .depth ≡ s .warp .depth + 1
+    (k : List ℕ) (l : Launch) (s a b t : State) → Reached k l s → stepOf k s ≡ outcome 0 a → s .warp .depth < a .warp .depth
     → Above k (s .warp .depth) a b → Goes k b t → t .warp .depth ≤ s .warp .depth
     → (t .warp .depth ≡ s .warp .depth) × (t .warp .mask ≡ s .warp .mask)

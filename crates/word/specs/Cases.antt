@@ -1,4 +1,4 @@
--- The definitions, computed: one table of cases and one statement. P7, P8 and P9 are the trace cards'; the rest are corners.
+-- The definitions, computed: one table of corners and one statement.
 use mathlib.Core.Path.{_≡_, refl}
 use mathlib.Core.Bool.{Bool, true, false}
 use mathlib.Core.List.{List, [], _∷_, map}
@@ -8,10 +8,9 @@ use lib.Dec.{ltb, lit≤}
 use lib.IntN.{pos, negsuc}
 use mir.Syntax.{Width, w8, w16}
 use mir.Val.{toZ, sel, bits}
-use Rattle.word.specs.Word.{pick, asWord, applyOf, holdsOf, flagOf, extendOf}
+use Rattle.word.specs.Word.{pick, asWord, applyOf, extendOf}
 use Rattle.word.specs.declared.Op.{Op}
-use Rattle.word.specs.declared.Op.the-variants.{Add, Rsub, Sll, Sra, Mulh, Mulhsu, Mulhu, Div, Divu, Rem, Remu, Max, Maxu, Sle, Sgtu, Move}
-use Rattle.word.specs.declared.Cond.the-variants.{Lt, Ltu}
+use Rattle.word.specs.declared.Op.the-variants.{Rsub, Sll, Sra, Mulh, Mulhsu, Mulhu, Div, Divu, Rem, Remu, Max, Maxu, Sle, Sgtu, Move}
 
 pub record Case : Type 0 where
   pub got : ℕ
@@ -23,14 +22,7 @@ a gives b = record { got = a; is = b }
 
 abbrev pub cases : List Case
 cases =
-    -- P7: vs1 = -1, vs2 = 0: VBLT taken, VBLTU not
-    flagOf (holdsOf Lt 0xffffffff 0) gives 1 ∷ flagOf (holdsOf Ltu 0xffffffff 0) gives 0
-    -- P8
-    ∷ applyOf Add 0xffffffff 1 gives 0
-    -- P9: by zero, and -2^31 by -1
-    ∷ applyOf Div 7 0 gives 0xffffffff ∷ applyOf Rem 7 0 gives 7
-    ∷ applyOf Div 0x80000000 0xffffffff gives 0x80000000 ∷ applyOf Rem 0x80000000 0xffffffff gives 0
-    ∷ applyOf Div 0xfffffff9 2 gives 0xfffffffd ∷ applyOf Rem 0xfffffff9 2 gives 0xffffffff
+    applyOf Div 0xfffffff9 2 gives 0xfffffffd ∷ applyOf Rem 0xfffffff9 2 gives 0xffffffff
     ∷ applyOf Divu 7 0 gives 0xffffffff ∷ applyOf Remu 7 0 gives 7
     ∷ applyOf Rsub 1 3 gives 2 ∷ applyOf Sll 1 33 gives 2 ∷ applyOf Sra 0x80000000 31 gives 0xffffffff
     ∷ applyOf Mulh 0xffffffff 0xffffffff gives 0 ∷ applyOf Mulhsu 0xffffffff 0xffffffff gives 0xffffffff

@@ -1,76 +1,41 @@
-use Rattle.printout.proofs.Laws.{words-of-length}
-use lib.ListN.{length}
-use Rattle.printout.proofs.Cases.{card-refused, kernel-odd, kernel-whole, kernel-long, printed}
-use Rattle.printout.specs.Printout.{kernelLines}
+use mathlib.Core.Path.{_≡_, refl, sym, _∙_}
+use mathlib.Core.Bool.{true}
 use native.Mathlib.Omega.{arith}
-use Prim.Native.Nat.{ℕ}
-use mathlib.Core.List.{List}
-use mathlib.Core.Path.{sym, ap, _∙_}
+use borrow.Author.Tests.{not-true, not-false}
 use borrow.Author.Needs.{needs}
+use Rattle.printout.specs.Printout.{reportOf, buffersOkOf}
+use Rattle.printout.proofs.Cases.{print-short, print-done, room, counted}
 use Rattle.printout.proofs.print_files.Statement.{statement}
 use Rattle.printout.proofs.print_files.Tie as tie
 
 returns : tie.Need-returns
-returns c =
-    let put = c .before .before .put-code-line .ensures in
-    let test = c .before .before .before .before in
-    let number = test .before in
-    printed (put .0) (omega arith) (card-refused _ _ _ _ _ (number .before .read-card .ensures) _ (number .number .ensures) (test .if1 .taken))
+returns c = ((omega arith, refl), print-short _ _ _ _ _ (sym (c .before .buffers-ok .ensures) ∙ not-true _ (c .if1 .taken)))
+
+-- the buffers suffice
+enough : (c : tie.Else1) → (let a = c .before .before .before .before .before .before .before .before .before .args in buffersOkOf (a .vector .now) (a .out .now)) ≡ true
+enough c = sym (c .before .buffers-ok .ensures) ∙ not-false _ (c .if1 .left)
+
+print-card-requires : tie.Need-print-card-requires
+print-card-requires c κs = room _ _ (enough (c .before .before .before))
 
 returns-2 : tie.Need-returns-2
 returns-2 c =
-    let put = c .before .before .put-code-line2 .ensures in
-    let whole = c .before .before .before .before in
-    let test = whole .before in
-    let read = test .before .before in
-    printed (put .0) (omega (arith, read .before .before .before .before .before .before .before .pre .1))
-    (kernel-odd _ _ _ _ _ (read .read-card .ensures) _ (test .before .number .ensures) (test .if1 .left) (whole .if2 .taken))
-
-returns-3 : tie.Need-returns-3
-returns-3 c =
-    let put = c .before .before .put-code-line3 .ensures in
-    let long = c .before .before .before .before in
-    let test = long .before .before in
-    let read = test .before .before in
-    printed (put .0) (omega (arith, read .before .before .before .before .before .before .before .pre .1))
-    (kernel-whole _ _ _ _ _ (read .read-card .ensures) _ (test .before .number .ensures) (test .if1 .left) (long .before .if2 .left) ∙ kernel-long _ _ _ _ (long .if3 .taken))
-
-slice-aggregate-print-kernel : tie.Need-slice-aggregate-print-kernel
-slice-aggregate-print-kernel c = sym (ap length (c .before .before .before .before .put-words .ensures) ∙ words-of-length _)
-
-returns-4 : tie.Need-returns-4
-returns-4 c =
-    let put = c .before .before .before .before .before .before in
-    let words = put .before .before .before .before .before .before .before .before in
-    let whole = words .before .before .before in
-    let number = whole .before .before in
-    let read = number .before in
-    let start = read .before .before .before .before .before .before .before in
-    printed (put .print-kernel .ensures .0) (omega (arith, put .print-kernel .ensures .1, start .pre .1))
-    (kernel-whole _ _ _ _ _ (read .read-card .ensures) _ (number .number .ensures) (whole .before .if1 .left) (whole .if2 .left)
-    ∙ ap (λ (ws : List ℕ). kernelLines ws (read .read-card .result .launch) (start .args .vector .now) (start .args .bytes .now)) (sym (words .put-words .ensures)))
+    let print = c .before .before .before .before .before .before in
+    let put = print .print-card .ensures in
+    let left = print .before .before .before .before in
+    let a = left .before .before .before .before .before .before .before .before .before .args in
+    (counted (a .out .now) _ _ _ _ (reportOf (a .card .now) (a .kernel .now) (a .vector .now) (a .bytes .now)) (put .0) (put .1) (room _ _ (enough left)), put .0 ∙ print-done _ _ _ _ _ (enough left))
 
 pub print-files-spec : {M : Type 1} → statement M
 print-files-spec =
     tie.close
     (tie.spec
     (λ c κs. search needs)
-    (λ c κs. search needs)
-    (λ c κs. search needs)
+    (λ c. search needs)
     (λ c. search needs)
     returns
-    (λ c κs. search needs)
-    (λ c. search needs)
-    returns-2
-    (λ c κs. search needs)
-    (λ c. search needs)
-    returns-3
-    (λ c κs. search needs)
-    (λ c. search needs)
-    slice-aggregate-print-kernel
-    (λ c κs. search needs)
+    print-card-requires
     (λ c. search needs)
     (λ c. search needs)
     (λ c. search needs)
-    (λ c. search needs)
-    returns-4)
+    returns-2)

@@ -1,6 +1,5 @@
-use Rattle.printout.proofs.Cases.{launch-refused, launch-ran}
-use Rattle.printout.proofs.Laws.{puts-as}
-use Rattle.printout.specs.Printout.{ranLines}
+use Rattle.printout.proofs.Cases.{launch-refused, launch-ran, put-report}
+use Rattle.printout.specs.Printout.{ranReport}
 use native.Mathlib.Omega.{arith}
 use mathlib.Core.Path.{sym, ap, _∙_}
 use borrow.Author.Needs.{needs}
@@ -11,7 +10,7 @@ returns : tie.Need-returns
 returns c =
     let put = c .before .before .put-code-line .ensures in
     let test = c .before .before .before .before in
-    (puts-as (launch-refused _ _ _ _ _ (test .before .before .before .before .launch .ensures) _ (test .before .number .ensures) (test .if1 .taken)) (put .0), omega arith)
+    (put-report (put .0) (launch-refused _ _ _ _ _ (test .before .before .before .before .launch .ensures) _ (test .before .number .ensures) (test .if1 .taken)), omega arith)
 
 put-five-lines-requires : tie.Need-put-five-lines-requires
 put-five-lines-requires c κs =
@@ -25,7 +24,7 @@ returns-2 c =
     let run = number .before .before .before .before .before .before .before in
     let test = run .before .before .before .before in
     let launched = launch-ran _ _ _ _ _ (test .before .before .before .before .launch .ensures) _ (test .before .number .ensures) (test .if1 .left) in
-    (puts-as (launched ∙ ap ranLines (sym (run .run .ensures)) ∙ rw (number .number2 .ensures)) (put .0), put .1)
+    (put-report (put .0) (launched ∙ ap ranReport (sym (run .run .ensures)) ∙ rw (number .number2 .ensures)), put .1)
 
 pub print-kernel-spec : {M : Type 1} → statement M
 print-kernel-spec =

@@ -1,0 +1,3 @@
+pub mod Calls
+-- the hypotheses are met, by computing
+mod Examples

@@ -1,0 +1,1 @@
+// The promises of the calls for C: statements in specs/, their proofs in proofs/. No code.

@@ -1,0 +1,47 @@
+-- What a store leaves where none of its tests holds: each byte of its access is the word's, but for those that a higher active lane's access has too.
+use Prim.Native.Nat.{ℕ, _+_, _≤_, _<_}
+use mathlib.Core.Path.{_≡_, refl, sym}
+use mathlib.Core.Bool.{true}
+use mathlib.Core.List.{[]}
+use lib.ListN.{getD}
+use Rattle.answer.specs.Rows.{first}
+use Rattle.answer.proofs.Rows.{passed}
+use Rattle.isa.specs.declared.Instr.the-variants as I
+use Rattle.isa.specs.declared.Space.{Space}
+use Rattle.isa.specs.declared.StoreOp.{StoreOp}
+use Rattle.isa.specs.declared.XReg.{XReg}
+use Rattle.isa.specs.declared.VReg.{VReg}
+use Rattle.lanes.specs.Lanes.{laneOf}
+use Rattle.memory.specs.Bytes.{leBytes}
+use Rattle.memory.specs.Memory.{widthOf, insideOf, indexIn}
+use Rattle.memory.specs.LaneAccess.{allInside}
+use Rattle.memory.proofs.Access.{inside-true}
+use Rattle.memory.proofs.Laws.{store-at, lanes-highest}
+use Rattle.definition.specs.State.{State, fixedOf, active, xOf, memoryOf, scalarAt, laneAt}
+use Rattle.definition.specs.Refuse.{refusalsOf}
+use Rattle.definition.specs.Exec.{effect, effectOf}
+
+module _ (m : State) where
+  module _ (k : StoreOp) (x y : XReg) (n : ℕ) (h : first (refusalsOf (I.Store k x y n) m) ≡ 0) where
+    pub scalar-inside : insideOf (memoryOf m) (widthOf k) (scalarAt x n m) ≡ true
+    unfolding refusalsOf
+    scalar-inside = passed [] [] 9 (insideOf (memoryOf m) (widthOf k) (scalarAt x n m)) refl h
+
+    pub scalar-stored : (j : ℕ) → j < widthOf k
+        → getD (effect (effectOf (I.Store k x y n) m) m .bytes) (indexIn (memoryOf m) (scalarAt x n m) + j) 0 ≡ getD (leBytes (widthOf k) (xOf y m)) j 0
+    unfolding effectOf
+    scalar-stored = store-at k (scalarAt x n m) (xOf y m) (memoryOf m) (inside-true (memoryOf m) (widthOf k) (scalarAt x n m) scalar-inside .1)
+
+  module _ (s : Space) (k : StoreOp) (x y : VReg) (n : ℕ) (h : first (refusalsOf (I.VStore s k x y n) m) ≡ 0) where
+    abbrev at : ℕ → ℕ
+    at = laneAt s x n m
+
+    pub lanes-inside : allInside (fixedOf m .numt) (active m) (memoryOf m) (widthOf k) at ≡ true
+    unfolding refusalsOf
+    lanes-inside = passed [] [] 9 (allInside (fixedOf m .numt) (active m) (memoryOf m) (widthOf k) at) refl h
+
+    pub lane-stored : (l : ℕ) → l < fixedOf m .numt → active m l ≡ true → (j : ℕ) → j < widthOf k
+        → ((i : ℕ) → l < i → i < fixedOf m .numt → active m i ≡ true → at i ≤ at l + j → at l + j < at i + widthOf k → ⊥)
+        → getD (effect (effectOf (I.VStore s k x y n) m) m .bytes) (indexIn (memoryOf m) (at l) + j) 0 ≡ getD (leBytes (widthOf k) (laneOf (m .vector) y l)) j 0
+    unfolding effectOf
+    lane-stored = lanes-highest (fixedOf m .numt) (active m) k at (laneOf (m .vector) y) (memoryOf m) (sym lanes-inside)

@@ -1,0 +1,178 @@
+-- What a store leaves in each byte: the scalar store's byte, or that of the highest active lane whose access has it.
+use Prim.Native.Nat.{ℕ, zero, suc, _+_, _-_, _<_}
+use mathlib.Core.Path.{_≡_, refl, sym, ap, _∙_, subst}
+use mathlib.Core.Bool.{Bool, true, false, _&&_, true≢false}
+use mathlib.Core.Logic.{⊎-elim}
+use native.Mathlib.Nat.{lt-of-lt-of-le, le-suc, le-refl}
+use native.Mathlib.Omega.{arith}
+use lib.Dec.{leb, ltb}
+use lib.ListN.{getD}
+use borrow.Author.Tests.{ltb-true, ltb-false, lt-ltb, leb-true, le-leb}
+use Rattle.answer.specs.Rows.{first}
+use Rattle.answer.proofs.Rows.{both}
+use Rattle.isa.specs.declared.Instr.{Instr}
+use Rattle.isa.specs.declared.Instr.the-variants as I
+use Rattle.isa.specs.declared.Space.{Space}
+use Rattle.isa.specs.declared.StoreOp.{StoreOp}
+use Rattle.isa.specs.declared.XReg.{XReg}
+use Rattle.isa.specs.declared.VReg.{VReg}
+use Rattle.lanes.specs.Lanes.{laneOf}
+use Rattle.lanes.specs.Laws.{newest}
+use Rattle.memory.specs.Memory.{Memory, widthOf, insideOf, indexIn}
+use Rattle.memory.proofs.Access.{inside-true, inside-address, all-inside-at}
+use Rattle.memory.proofs.Laws.{store-unwritten, lanes-unwritten}
+use Rattle.definition.specs.State.{State, fixedOf, active, xOf, memoryOf, scalarAt, laneAt}
+use Rattle.definition.specs.Refuse.{refusalsOf}
+use Rattle.definition.specs.Exec.{effect, effectOf}
+use Rattle.definition.proofs.Stored.{scalar-inside, scalar-stored, lanes-inside, lane-stored}
+use Rattle.promises.specs.Lanes.{isActive, Has, Touches, scalar, lane}
+use Rattle.promises.specs.Written.{byteAt, Becomes, stays, byScalar, byLane}
+
+-- ---- active lanes
+
+pub active-of : (m : State) (l : ℕ) → l < fixedOf m .numt → active m l ≡ true → isActive m l ≡ true
+active-of m l h t = rw (lt-ltb l (fixedOf m .numt) h, t)
+
+pub active-below : (m : State) (l : ℕ) → isActive m l ≡ true → (l < fixedOf m .numt) × (active m l ≡ true)
+active-below m l e =
+    let p = both (ltb l (fixedOf m .numt)) (active m l) e in
+    (ltb-true l (fixedOf m .numt) (p .0), p .1)
+
+-- ---- the highest lane of those that a test picks
+
+data Highest (p : ℕ → Bool) (n : ℕ) : Type 0 where
+  none : ((l : ℕ) → l < n → p l ≡ false) → Highest p n
+  top : (l : ℕ) → l < n → p l ≡ true → ((h : ℕ) → l < h → h < n → p h ≡ false) → Highest p n
+
+highest : (p : ℕ → Bool) (n : ℕ) → Highest p n
+highest p zero = none (λ l h. absurd (omega arith))
+highest p (suc n) = turn (p n) refl (highest p n)
+  where
+    turn : (t : Bool) → p n ≡ t → Highest p n → Highest p (suc n)
+    turn true e x = top n (le-refl (suc n)) e (λ h a b. absurd (omega arith))
+    turn false e (none f) = none (λ l h. ⊎-elim (λ q. ap p q ∙ e) (f l) (newest h))
+    turn false e (top l b t f) = top l (lt-of-lt-of-le b (le-suc n)) t (λ h a c. ⊎-elim (λ q. ap p q ∙ e) (f h a) (newest c))
+
+-- ---- an access has an address
+
+abbrev hasOf : ℕ → ℕ → ℕ → Bool
+hasOf n b a = leb b a && ltb a (b + n)
+
+has-true : (n b a : ℕ) → hasOf n b a ≡ true → Has n b a
+has-true n b a e =
+    let p = both (leb b a) (ltb a (b + n)) e in
+    (leb-true b a (p .0), ltb-true a (b + n) (p .1))
+
+true-has : (n b a : ℕ) → Has n b a → hasOf n b a ≡ true
+true-has n b a h = rw (le-leb b a (h .0), lt-ltb a (b + n) (h .1))
+
+-- ---- what a store touches
+
+-- a byte that is not touched stays
+pub becomes-stays : (m : State) (a old new : ℕ) (i : Instr) → Becomes m a old new i → (Touches m a i → ⊥) → new ≡ old
+becomes-stays m a old new i (stays t e) o = e
+becomes-stays m a old new i (byScalar k x y n h e) o = absurd (o (scalar k x y n h))
+becomes-stays m a old new i (byLane s k x y n l t h f e) o = absurd (o (lane s k x y n l t h))
+
+untouched : (m : State) (a : ℕ) (k : StoreOp) (x y : XReg) (n : ℕ) → (Has (widthOf k) (scalarAt x n m) a → ⊥) → Touches m a (I.Store k x y n) → ⊥
+untouched m a k x y n o (scalar k1 x1 y1 n1 h) = o h
+
+untouched-lanes : (m : State) (a : ℕ) (s : Space) (k : StoreOp) (x y : VReg) (n : ℕ) → ((l : ℕ) → isActive m l ≡ true → Has (widthOf k) (laneAt s x n m l) a → ⊥)
+    → Touches m a (I.VStore s k x y n) → ⊥
+untouched-lanes m a s k x y n o (lane s1 k1 x1 y1 n1 l t h) = o l t h
+
+-- ---- each byte after a store
+
+module _ (m : State) (j : ℕ) where
+  abbrev M : Memory
+  M = memoryOf m
+
+  abbrev A : ℕ
+  A = M .base + j
+
+  -- byte j is the one at its address of an access that lies inside
+  place : (w a : ℕ) → insideOf M w a ≡ true → Has w a A → indexIn M a + (A - a) ≡ j
+  place w a e h = let z = inside-true M w a e in omega (arith, h .0)
+
+  -- what the instruction leaves there
+  abbrev After : Instr → Type 0
+  After i = Becomes m A (getD (m .bytes) j 0) (getD (effect (effectOf i m) m .bytes) j 0) i
+
+  pub scalar-becomes : (k : StoreOp) (x y : XReg) (n : ℕ) → first (refusalsOf (I.Store k x y n) m) ≡ 0 → After (I.Store k x y n)
+  unfolding effectOf
+  scalar-becomes k x y n e = by (hasOf w a A) refl
+    where
+      w : ℕ
+      w = widthOf k
+
+      a : ℕ
+      a = scalarAt x n m
+
+      fits : insideOf M w a ≡ true
+      fits = scalar-inside m k x y n e
+
+      by : (t : Bool) → hasOf w a A ≡ t → After (I.Store k x y n)
+      by true t =
+          let h = has-true w a A t in
+          byScalar k x y n h
+          (subst (λ (i : ℕ). getD (effect (effectOf (I.Store k x y n) m) m .bytes) i 0 ≡ byteAt k a (xOf y m) A) (place w a fits h)
+          (scalar-stored m k x y n e (A - a) (omega (arith, h .0, h .1))))
+      by false t =
+          let no : Has w a A → ⊥ = λ h. true≢false (sym (true-has w a A h) ∙ t) in
+          stays (untouched m A k x y n no) (store-unwritten k a (xOf y m) M j (λ p q. no (inside-address M w a fits j p q)))
+
+  pub lanes-become : (s : Space) (k : StoreOp) (x y : VReg) (n : ℕ) → first (refusalsOf (I.VStore s k x y n) m) ≡ 0 → After (I.VStore s k x y n)
+  unfolding effectOf
+  lanes-become s k x y n e = by (highest picks N)
+    where
+      N : ℕ
+      N = fixedOf m .numt
+
+      w : ℕ
+      w = widthOf k
+
+      at : ℕ → ℕ
+      at = laneAt s x n m
+
+      picks : ℕ → Bool
+      picks l = active m l && hasOf w (at l) A
+
+      fits : (l : ℕ) → l < N → active m l ≡ true → insideOf M w (at l) ≡ true
+      fits = all-inside-at N (active m) M w at (sym (lanes-inside m s k x y n e))
+
+      -- a lane that is not picked makes no access there
+      no : (l : ℕ) → picks l ≡ false → active m l ≡ true → Has w (at l) A → ⊥
+      no l f t h =
+          let z : picks l ≡ true = rw (t, true-has w (at l) A h) in
+          true≢false (sym z ∙ f)
+
+      by : Highest picks N → After (I.VStore s k x y n)
+      by (none f) =
+          stays (untouched-lanes m A s k x y n (λ l t. let p = active-below m l t in no l (f l (p .0)) (p .1)))
+          (lanes-unwritten N (active m) k at (laneOf (m .vector) y) M j (λ l c t p q. no l (f l c) t (inside-address M w (at l) (fits l c t) j p q)))
+      by (top l c t f) =
+          let b = both (active m l) (hasOf w (at l) A) t in
+          let h = has-true w (at l) A (b .1) in
+          byLane s k x y n l (active-of m l c (b .0)) h (λ i g u. let p = active-below m i u in no i (f i g (p .0)) (p .1))
+          (subst (λ (i : ℕ). getD (effect (effectOf (I.VStore s k x y n) m) m .bytes) i 0 ≡ byteAt k (at l) (laneOf (m .vector) y l) A) (place w (at l) (fits l c (b .0)) h)
+          (lane-stored m s k x y n e l c (b .0) (A - at l) (omega (arith, h .0, h .1))
+          (λ i g d u p q. no i (f i g d) u (omega (arith, h .0), omega (arith, h .0)))))
+
+-- ---- what a byte becomes is one byte: the statement leaves no choice
+lane-one : (l h : ℕ) → (l < h → ⊥) → (h < l → ⊥) → l ≡ h
+lane-one l h a b = by (ltb l h) (ltb h l) refl refl
+  where
+    by : (s t : Bool) → ltb l h ≡ s → ltb h l ≡ t → l ≡ h
+    by true t p q = absurd (a (ltb-true l h p))
+    by false true p q = absurd (b (ltb-true h l q))
+    by false false p q = omega (arith, ltb-false l h p, ltb-false h l q)
+
+pub becomes-one : (m : State) (a old x y : ℕ) (i : Instr) → Becomes m a old x i → Becomes m a old y i → x ≡ y
+becomes-one m a old x y i (stays t e) (stays u f) = e ∙ sym f
+becomes-one m a old x y i (stays t e) (byScalar k p q n h f) = absurd (t (scalar k p q n h))
+becomes-one m a old x y i (stays t e) (byLane s k p q n l c h o f) = absurd (t (lane s k p q n l c h))
+becomes-one m a old x y i (byScalar k p q n h e) (stays u f) = absurd (u (scalar k p q n h))
+becomes-one m a old x y i (byScalar k p q n h e) (byScalar k1 p1 q1 n1 h1 f) = e ∙ sym f
+becomes-one m a old x y i (byLane s k p q n l c h o e) (stays u f) = absurd (u (lane s k p q n l c h))
+becomes-one m a old x y i (byLane s k p q n l c h o e) (byLane s1 k1 p1 q1 n1 l1 c1 h1 o1 f) =
+    e ∙ ap (λ (b : ℕ). byteAt k (laneAt s p n m b) (laneOf (m .vector) q b) a) (lane-one l l1 (λ b. o l1 b c1 h1) (λ b. o1 l b c h)) ∙ sym f
