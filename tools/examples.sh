@@ -1,8 +1,11 @@
 #!/bin/sh
-# Runs ./bench on every folder of examples/ and crates/bench_cases/data/ and compares what it prints with the folder's expected.txt, then on wrong arguments.
+# The last part of ./check: runs ./bench on every folder of examples/ and crates/bench_cases/data/ and compares what it prints with the folder's
+# expected.txt, then on wrong arguments.
 set -u
 cd "$(dirname "$0")/.." || exit 2
 same=0 wrong=0
+# where the program is yet to be built, what ./bench says meanwhile is shown and not compared
+./bench examples/end >/dev/null || exit 1
 
 # NAME, what was printed, what was expected
 compare() {

@@ -1,5 +1,6 @@
 //! Reference interpreter of the warp bench machine, written from the rules
-//! (docs/DEFINITION.md) alone. It shares no code with the machine it checks.
+//! alone and held against their own text, section by section (README.md). It
+//! shares no code with the machine it checks.
 #![forbid(unsafe_code)]
 
 pub mod card;
