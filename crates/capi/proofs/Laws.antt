@@ -13,7 +13,7 @@ use Rattle.answer.proofs.Rows.{passed}
 use Rattle.warp.specs.declared.Launch.{Launch}
 use Rattle.warp.specs.declared.Warp.{Warp}
 use Rattle.warp.specs.Warp.{splitCount, zeroWarp, Answered, answered, withStop}
-use Rattle.warp.specs.SplitLaws.{by-cond}
+use Rattle.warp.proofs.SplitLaws.{by-cond}
 use Rattle.running.specs.Words.{stateWords, scalarPart, splitPart, movingPart, fixedPart, warpOf, warpIn, soundIn}
 use Rattle.running.proofs.Words.{together-words, parts-whole, fixed-long, warp-words}
 use Rattle.definition.specs.State.{State, state, Outcome, outcome}

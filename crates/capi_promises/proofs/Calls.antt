@@ -15,8 +15,8 @@ use Rattle.warp.specs.declared.Launch.{Launch}
 use Rattle.warp.specs.declared.Warp.{Warp}
 use Rattle.warp.specs.Warp.{Answered, answered}
 use Rattle.warp.specs.WellFormed.{launchOkOf, wellFormedOf}
-use Rattle.warp.specs.Formed.{formed}
-use Rattle.warp.specs.SplitLaws.{by-cond}
+use Rattle.warp.proofs.Formed.{formed}
+use Rattle.warp.proofs.SplitLaws.{by-cond}
 use Rattle.running.specs.Words.{stateWords, wordsOf, warpIn, soundIn}
 use Rattle.running.proofs.Words.{warp-words, words-warp, words-sound, words-long}
 use Rattle.definition.specs.State.{State, state, Outcome, outcome}

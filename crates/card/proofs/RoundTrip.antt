@@ -11,7 +11,8 @@ use Rattle.answer.proofs.Rows.{both}
 use Rattle.warp.specs.declared.Launch.{Launch}
 use Rattle.warp.specs.WellFormed.{fixedOkOf, launchOkOf}
 use Rattle.warp.specs.Warp.{aligned}
-use Rattle.warp.specs.Formed.{FixedOk, fixed-ok}
+use Rattle.warp.specs.Facts.{FixedOk}
+use Rattle.warp.proofs.Formed.{fixed-ok}
 use Rattle.card.proofs.BigEndianLaws.{Bytes}
 use Rattle.card.specs.Layout.{Values, end, _▹_, valuesAt, bytesOf}
 use Rattle.card.proofs.LayoutLaws.{Each, Fits, length-bytes, bytes-values, values-bytes}

@@ -15,15 +15,16 @@ use Rattle.isa.specs.declared.Instr.{Instr}
 use Rattle.isa.specs.declared.Instr.the-variants as I
 use Rattle.isa.specs.declared.CsrOp.{CsrOp}
 use Rattle.isa.specs.declared.XReg.{XReg}
-use Rattle.lanes.specs.MaskLaws.{part-in}
+use Rattle.lanes.proofs.MaskLaws.{part-in}
 use Rattle.warp.specs.declared.Warp.{Warp}
 use Rattle.warp.specs.Warp.{splitCount, aligned, withPc, writeX, next, nextPc, linked, branched}
 use Rattle.warp.specs.WellFormed.{wellFormedOf}
 use Rattle.warp.specs.Splits.{openOf, parted, setRpcOf}
-use Rattle.warp.specs.SplitLaws.{by-cond}
+use Rattle.warp.proofs.SplitLaws.{by-cond}
 use Rattle.warp.specs.Csr.{isPrint, writesOf, csrAt, csrDone}
-use Rattle.warp.specs.Moves.{Cuts, Moves, opens, joins, leaves}
-use Rattle.warp.specs.Formed.{Formed, formed, well, mask-small, formed-pc, formed-next, formed-x, formed-stop, formed-print, formed-rpc, formed-setrpc, formed-open, formed-join}
+use Rattle.warp.proofs.Moves.{Cuts, Moves, opens, joins, leaves}
+use Rattle.warp.specs.Facts.{Formed}
+use Rattle.warp.proofs.Formed.{formed, well, mask-small, formed-pc, formed-next, formed-x, formed-stop, formed-print, formed-rpc, formed-setrpc, formed-open, formed-join}
 use Rattle.definition.specs.State.{State, fixedOf, xOf, instrAt}
 use Rattle.definition.specs.Refuse.{runsOkOf, onKernel, astray, refusalsOf}
 use Rattle.definition.specs.Exec.{effect, effectOf}

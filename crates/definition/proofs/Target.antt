@@ -17,7 +17,7 @@ use Rattle.isa.specs.declared.StoreOp.the-variants as S
 use Rattle.isa.specs.declared.XReg.{XReg}
 use Rattle.isa.specs.declared.VReg.{VReg}
 use Rattle.lanes.specs.Lanes.{lanesMax, slotOf}
-use Rattle.lanes.specs.Laws.{write-length, write-other}
+use Rattle.lanes.proofs.Laws.{write-length, write-other}
 use Rattle.memory.specs.Memory.{widthOf, indexIn, storeOf}
 use Rattle.memory.specs.LaneAccess.{storeLanes}
 use Rattle.memory.proofs.Laws.{store-length, store-unwritten, lanes-length, lanes-unwritten}
@@ -25,7 +25,7 @@ use Rattle.warp.specs.declared.Split.{Split}
 use Rattle.warp.specs.declared.Warp.{Warp}
 use Rattle.warp.specs.Warp.{zeroSplit, setX, writeX, next}
 use Rattle.warp.specs.Splits.{openOf, parted, lastSplit, joinOf, setRpcOf}
-use Rattle.warp.specs.SplitLaws.{by-cond}
+use Rattle.warp.proofs.SplitLaws.{by-cond}
 use Rattle.warp.specs.Csr.{isPrint, writesOf, csrAt, csrDone}
 use Rattle.definition.specs.State.{State, fixedOf, active, xOf, memoryOf, scalarAt, laneAt, instrAt}
 use Rattle.definition.specs.Refuse.{testsOf}

@@ -142,25 +142,6 @@ module _ (k : List ℕ) (m : State) where
     unfolding stepOf
     step-malformed f = rw (r, f)
 
-    module _ (f : wellFormedOf (m .warp) ≡ true) where
-      pub step-ended : m .warp .ended ≡ true → stepOf k m ≡ outcome 3 m
-      unfolding stepOf
-      step-ended e = rw (r, f, e)
-
-      module _ (e : m .warp .ended ≡ false) where
-        pub step-waits : m .warp .waiting ≡ true → stepOf k m ≡ outcome 4 m
-        unfolding stepOf
-        step-waits b = rw (r, f, e, b)
-
-        module _ (b : m .warp .waiting ≡ false) where
-          pub step-off : onKernel k (m .warp) ≡ false → stepOf k m ≡ outcome 5 m
-          unfolding stepOf
-          step-off o = rw (r, f, e, b, o)
-
-          pub step-exec : onKernel k (m .warp) ≡ true → stepOf k m ≡ execOf (instrAt k m) m
-          unfolding stepOf execOf
-          step-exec o = rw (r, f, e, b, o)
-
 -- ---- a step by its word
 
 stopped : (e b o : Bool) (rs : List (Row Bool)) → (first (3 ⇒ e ∷ 4 ⇒ b ∷ 5 ⇒ not o ∷ []) ≡ 0 → ⊥) → first (3 ⇒ e ∷ 4 ⇒ b ∷ 5 ⇒ not o ∷ rs) ≡ first (3 ⇒ e ∷ 4 ⇒ b ∷ 5 ⇒ not o ∷ [])

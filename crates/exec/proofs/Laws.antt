@@ -33,7 +33,8 @@ use Rattle.memory.proofs.Laws.{found-inside, outside-is, inside-only, load-only
 use Rattle.warp.specs.declared.Warp.{Warp}
 use Rattle.warp.specs.Warp.{next}
 use Rattle.warp.specs.WellFormed.{wellFormedOf}
-use Rattle.warp.specs.Formed.{FixedOk, fixed-ok, mask-small, well}
+use Rattle.warp.specs.Facts.{FixedOk}
+use Rattle.warp.proofs.Formed.{fixed-ok, mask-small, well}
 use Rattle.warp.specs.Csr.{isPrint, isRpc, writesOf, csrDone}
 use Rattle.running.specs.Words.{movingCount, flatCount, maskIn, pcIn, endedIn, waitingIn, fixedIn, warpOf}
 use Rattle.running.specs.Goes.{nextIn, Goes}

@@ -42,7 +42,7 @@ ghost use Rattle.lanes.specs.Lanes.{OperandOk};
 ghost use Rattle.memory.specs.Memory.{memory, MemoryOk};
 ghost use Rattle.memory.specs.Address.{offsetLimit};
 ghost use Rattle.warp.specs.Warp.{splitCount, maxThreads};
-ghost use Rattle.warp.specs.Formed.{FixedOk};
+ghost use Rattle.warp.specs.Facts.{FixedOk};
 ghost use Rattle.running.specs.Words.{movingCount, flatCount, pcIn, maskIn, depthIn, fixedIn, warpOf};
 ghost use Rattle.running.specs.Goes.{nextIn, Goes};
 ghost use Rattle.definition.specs.State.{state, privateIn};

@@ -13,7 +13,7 @@ use Rattle.isa.specs.Fields.{Fields}
 use Rattle.isa.specs.Table.{seek, Words, on, wordAt, wordsOf}
 use Rattle.isa.specs.Vector.{Formed, has, vectorAs}
 use Rattle.isa.specs.Kinds.{sourceOf, vectorWord}
-use Rattle.isa.specs.Laws.{NoneFrom, past}
+use Rattle.isa.proofs.Laws.{NoneFrom, past}
 
 module _ (c : Fields) (k : ℕ) where
   -- a row that has the form is the vector word of its op

@@ -2,7 +2,7 @@
 use Prim.Native.Nat.{_<_, _^_}
 use native.Mathlib.Omega.{arith}
 use Rattle.isa.specs.Fields.{Fields, immB, immJ}
-use Rattle.isa.specs.Decoded.{Small}
+use Rattle.isa.proofs.Decoded.{Small}
 
 module _ (c : Fields) (h : Small c) (top : c .funct7 < 128) where
   pub immB-small : immB c < 2 ^ 13

@@ -1,3 +1,5 @@
+pub mod Laws
+pub mod Decoded
 pub mod Tables
 pub mod Immediates
 pub mod Forms

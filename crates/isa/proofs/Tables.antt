@@ -9,7 +9,7 @@ use Rattle.answer.proofs.Matches.{NoneOf, each, in-range}
 use Rattle.isa.specs.declared.Instr.{Instr}
 use Rattle.isa.specs.Fields.{Fields}
 use Rattle.isa.specs.Table.{seek, pick, Words, wordAt, wordsOf}
-use Rattle.isa.specs.Laws.{NoneFrom, past}
+use Rattle.isa.proofs.Laws.{NoneFrom, past}
 
 -- a choice of one thing
 either : {A : Type 0} (b : Bool) {a : A} → a ≡ cond b a a

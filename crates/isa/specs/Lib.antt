@@ -8,5 +8,3 @@ pub mod Decode
 pub mod Number
 pub mod Kinds
 pub mod Fits
-pub mod Laws
-pub mod Decoded

@@ -1,1 +1,4 @@
+pub mod Laws
+pub mod MaskLaws
 pub mod RowLaws
+pub mod Cases

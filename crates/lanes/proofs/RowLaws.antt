@@ -17,8 +17,8 @@ use Rattle.word.specs.declared.Cond.the-variants.{Ne}
 use Rattle.isa.specs.declared.VReg.{VReg}
 use Rattle.lanes.specs.Mask.{bit}
 use Rattle.lanes.specs.Lanes.{lanesMax, fileWords, slotOf, stepIf, eachLane, writeLanes, maskOf, okIf, valueOf, uniformOf}
-use Rattle.lanes.specs.Laws.{newest, each-none, each-on, each-off, all-same, ok-not, value-only}
-use Rattle.lanes.specs.MaskLaws.{bit-above, and-bits, mask-zero}
+use Rattle.lanes.proofs.Laws.{newest, each-none, each-on, each-off, all-same, ok-not, value-only}
+use Rattle.lanes.proofs.MaskLaws.{bit-above, and-bits, mask-zero}
 use Rattle.lanes.specs.Rows.{at, Row, RowOn, holdsLane, maskStep}
 
 pub row-none : (f : ℕ → ℕ) (a : List ℕ) → length a ≡ lanesMax → Row 0 f a

@@ -12,7 +12,7 @@ use Rattle.answer.proofs.Rows.{both}
 use Rattle.warp.specs.declared.Warp.{Warp}
 use Rattle.warp.specs.Warp.{splitCount}
 use Rattle.warp.specs.WellFormed.{wellFormedOf}
-use Rattle.warp.specs.Formed.{Formed}
+use Rattle.warp.specs.Facts.{Formed}
 use Rattle.running.specs.Words.{movingCount, flatCount, fixedIn, warpOf, soundOf, splitsWords, movingWords, fixedWords}
 use Rattle.running.proofs.Words.{apart, apart-sound, lent-words}
 use Rattle.definition.specs.State.{State, state, Outcome, outcome, instrAt}

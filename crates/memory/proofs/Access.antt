@@ -11,8 +11,8 @@ use borrow.Author.Tests.{lt-ltb, le-ltb, leb-true, leb-false}
 use Rattle.word.specs.Word.{subOf}
 use Rattle.lanes.specs.Mask.{bit}
 use Rattle.lanes.specs.Lanes.{maskOf}
-use Rattle.lanes.specs.Laws.{all-at, all-same, ok-at, ok-not, both-left, both-right}
-use Rattle.lanes.specs.MaskLaws.{and-bits, mask-zero}
+use Rattle.lanes.proofs.Laws.{all-at, all-same, ok-at, ok-not, both-left, both-right}
+use Rattle.lanes.proofs.MaskLaws.{and-bits, mask-zero}
 use Rattle.memory.specs.Memory.{Memory, memory, endOf, MemoryOk, insideOf, indexIn, dataLimit, memoryOkOf}
 use Rattle.memory.specs.LaneAccess.{laneInside, allInside}
 

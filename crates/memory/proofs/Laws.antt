@@ -13,7 +13,7 @@ use Rattle.isa.specs.declared.Space.{Space}
 use Rattle.isa.specs.declared.StoreOp.{StoreOp}
 use Rattle.isa.specs.declared.VReg.{VReg}
 use Rattle.lanes.specs.Lanes.{laneOf, writeLanes}
-use Rattle.lanes.specs.Laws.{newest, each-grows, each-keeps, each-same, write-same, all-same, ok-same}
+use Rattle.lanes.proofs.Laws.{newest, each-grows, each-keeps, each-same, write-same, all-same, ok-same}
 use Rattle.memory.specs.declared.Loaded.the-variants.{Found, Outside}
 use Rattle.memory.specs.declared.Private.{Private}
 use Rattle.memory.specs.Bytes.{leBytes}

@@ -1,3 +1,4 @@
 pub mod Access
 pub mod Laws
 pub mod Wrap
+pub mod Cases

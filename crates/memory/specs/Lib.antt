@@ -2,4 +2,3 @@ pub mod Bytes
 pub mod Memory
 pub mod Address
 pub mod LaneAccess
-pub mod Cases

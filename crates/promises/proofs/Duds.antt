@@ -10,7 +10,7 @@ use Rattle.definition.specs.Calls.{Ran, ran, stepsOf, runOf}
 use Rattle.definition.proofs.Calls.{turn-off}
 use Rattle.definition.proofs.Computes.{computes}
 use Rattle.promises.specs.Bound.{loop, launchOn, startOf}
-use Rattle.promises.specs.Machine.{Machine, ours}
+use Rattle.promises.specs.Machine.{ours}
 use Rattle.promises.specs.Reached.{launched}
 use Rattle.promises.specs.Runs.{tested, Steps, Iterates}
 use Rattle.promises.specs.Duds.{Opened, same, claims, OursMeets, RefusesBreaks, SameBreaks, IdleBreaks, begins, moves, IdleReaches, CoastsBreaks, ClaimsBreaks, OneRun}

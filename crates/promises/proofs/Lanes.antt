@@ -14,12 +14,12 @@ use Rattle.answer.proofs.Rows.{every-at}
 use Rattle.isa.specs.declared.Instr.{Instr}
 use Rattle.isa.specs.declared.VReg.{VReg}
 use Rattle.lanes.specs.Lanes.{lanesMax, registers, fileWords, slotOf, writeLanes}
-use Rattle.lanes.specs.Laws.{each-keeps, write-only, write-unwritten}
-use Rattle.lanes.specs.MaskLaws.{bit-above}
+use Rattle.lanes.proofs.Laws.{each-keeps, write-only, write-unwritten}
+use Rattle.lanes.proofs.MaskLaws.{bit-above}
 use Rattle.warp.specs.declared.Warp.{Warp}
 use Rattle.warp.specs.Warp.{aligned, splitCount}
 use Rattle.warp.specs.WellFormed.{fixedOkOf, allZero, chainOf, wellFormedOf}
-use Rattle.warp.specs.Chain.{chain-le}
+use Rattle.warp.proofs.Chain.{chain-le}
 use Rattle.definition.specs.State.{State, Outcome, fixedOf, active, instrAt}
 use Rattle.definition.specs.Refuse.{runsOkOf, stepTests, testsOf}
 use Rattle.definition.specs.Exec.{Effect, effect, effectOf}

@@ -13,8 +13,9 @@ use Rattle.warp.specs.declared.Launch.{Launch}
 use Rattle.warp.specs.declared.Warp.{Warp}
 use Rattle.warp.specs.Warp.{aligned, splitCount, Answered}
 use Rattle.warp.specs.WellFormed.{fixedOkOf, launchOkOf, chainOf, allZero, wellFormedOf}
-use Rattle.warp.specs.Moves.{Moves, leaves}
-use Rattle.warp.specs.Formed.{Formed, formed, well, formed-stop}
+use Rattle.warp.proofs.Moves.{Moves, leaves}
+use Rattle.warp.specs.Facts.{Formed}
+use Rattle.warp.proofs.Formed.{formed, well, formed-stop}
 use Rattle.definition.specs.State.{State, state, Outcome, outcome, fixedOf}
 use Rattle.definition.specs.Refuse.{runsOkOf}
 use Rattle.definition.specs.Step.{stepOf}

@@ -10,7 +10,7 @@ use borrow.Author.Tests.{eq-eqb, ne-eqb, eqb-true, eqb-false}
 use Rattle.answer.specs.Rows.{Row, _⇒_, first, Iff}
 use Rattle.answer.proofs.Rows.{silent, without, first-silent, zero-silent, numbered-le}
 use Rattle.warp.specs.WellFormed.{launchOkOf, wellFormedOf}
-use Rattle.warp.specs.SplitLaws.{by-cond}
+use Rattle.warp.proofs.SplitLaws.{by-cond}
 use Rattle.definition.specs.State.{State}
 use Rattle.definition.specs.Refuse.{runsOkOf, stateTests, stepTests, lastOfStep}
 use Rattle.definition.specs.Step.{stepOf}

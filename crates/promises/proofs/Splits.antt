@@ -14,16 +14,17 @@ use Rattle.isa.specs.declared.VReg.{VReg}
 use Rattle.isa.specs.declared.Instr.{Instr}
 use Rattle.isa.specs.declared.Instr.the-variants as I
 use Rattle.lanes.specs.Mask.{bitAt}
-use Rattle.lanes.specs.MaskLaws.{part-in}
+use Rattle.lanes.proofs.MaskLaws.{part-in}
 use Rattle.warp.specs.declared.Launch.{Launch}
 use Rattle.warp.specs.declared.Split.{Split}
 use Rattle.warp.specs.declared.Warp.{Warp}
 use Rattle.warp.specs.Warp.{splitCount, zeroSplit, nextPc, next, writeX}
 use Rattle.warp.specs.Splits.{opened, openOf, parted, lastSplit, joinOf, setRpcOf}
-use Rattle.warp.specs.SplitLaws.{by-cond, parted-opens}
+use Rattle.warp.proofs.SplitLaws.{by-cond, parted-opens}
 use Rattle.warp.specs.Csr.{isPrint, writesOf, csrAt, csrDone}
-use Rattle.warp.specs.Moves as M
-use Rattle.warp.specs.Formed.{Formed, formed, depth-le, held-of, mask-small}
+use Rattle.warp.proofs.Moves as M
+use Rattle.warp.specs.Facts.{Formed}
+use Rattle.warp.proofs.Formed.{formed, depth-le, held-of, mask-small}
 use Rattle.definition.specs.State.{State, Outcome, outcome, pcBy, xOf, elseOf, instrAt}
 use Rattle.definition.specs.Exec.{effect, effectOf}
 use Rattle.definition.specs.Step.{stepOf}
@@ -32,6 +33,7 @@ use Rattle.promises.specs.Reached.{steps, Sound}
 use Rattle.promises.specs.Splits.{Disagree, Opens, Near, OneAtMost, SplitCuts, SplitWhen, Covered, Fewer, AtMost, Room, OneLane, Above, here, on, Restored}
 use Rattle.promises.proofs.Refusals.{is-zero, step-keeps}
 use Rattle.promises.proofs.Reached.{fit, carried, goes-sound, reached-sound}
+use Rattle.warp.specs.Parked.{CutInTwo}
 
 held-at : (k : List ℕ) (l : Launch) (s : State) → Sound k l s → M.Held (s .warp)
 held-at k l s g = held-of (s .warp) (formed (s .warp) (g .splits) (g .formed))
@@ -166,7 +168,7 @@ module _ (k : List ℕ) (l : Launch) (s t : State) (g : Sound k l s) (q : stepOf
     wide : Widens (s .warp) (t .warp)
     wide = widening (s .warp) (t .warp) (carried k s t (fit k l s g) (steps q) .moves) d
 
-    cuts-in-two : Widens (s .warp) (t .warp) → (s .warp .depth < splitCount) × M.CutInTwo (s .warp .mask) (lastSplit (t .warp) .elsemask) (t .warp .mask)
+    cuts-in-two : Widens (s .warp) (t .warp) → (s .warp .depth < splitCount) × CutInTwo (s .warp .mask) (lastSplit (t .warp) .elsemask) (t .warp .mask)
     cuts-in-two (widens e p c u) = (M.fits e p (s .warp) (held-at k l s g) c, rw u (M.split-cuts e p (s .warp) (held-at k l s g) c))
 
     opens : Opener s (instrAt k s) (t .warp) → Opens k s t

@@ -17,7 +17,7 @@ use Rattle.isa.specs.declared.StoreOp.{StoreOp}
 use Rattle.isa.specs.declared.XReg.{XReg}
 use Rattle.isa.specs.declared.VReg.{VReg}
 use Rattle.lanes.specs.Lanes.{laneOf}
-use Rattle.lanes.specs.Laws.{newest}
+use Rattle.lanes.proofs.Laws.{newest}
 use Rattle.memory.specs.Memory.{Memory, widthOf, insideOf, indexIn}
 use Rattle.memory.proofs.Access.{inside-true, inside-address, all-inside-at}
 use Rattle.memory.proofs.Laws.{store-unwritten, lanes-unwritten}

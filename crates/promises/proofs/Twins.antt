@@ -14,8 +14,8 @@ use Rattle.isa.specs.declared.Space.{Space}
 use Rattle.isa.specs.declared.VReg.{VReg}
 use Rattle.lanes.specs.Lanes.{laneOf, operandOf, opLane}
 use Rattle.lanes.specs.declared.Operand.{Operand}
-use Rattle.lanes.specs.Laws.{lane-only, operand-only, uniform-only, value-only}
-use Rattle.lanes.specs.MaskLaws.{wants-only}
+use Rattle.lanes.proofs.Laws.{lane-only, operand-only, uniform-only, value-only}
+use Rattle.lanes.proofs.MaskLaws.{wants-only}
 use Rattle.memory.specs.Memory.{sizeOf, widthOf}
 use Rattle.memory.specs.LaneAccess.{allInside}
 use Rattle.memory.proofs.Laws.{address-only, inside-only, store-only}

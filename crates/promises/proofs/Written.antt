@@ -15,11 +15,12 @@ use Rattle.isa.specs.declared.Instr.the-variants as I
 use Rattle.isa.specs.declared.XReg.{XReg}
 use Rattle.isa.specs.declared.VReg.{VReg}
 use Rattle.lanes.specs.Lanes.{lanesMax, registers, fileWords, laneOf, valueOf, uniformOf}
-use Rattle.lanes.specs.Laws.{write-at, write-apart, uniform-at, uniform-when}
+use Rattle.lanes.proofs.Laws.{write-at, write-apart, uniform-at, uniform-when}
 use Rattle.warp.specs.declared.Warp.{Warp}
 use Rattle.warp.specs.Warp.{readX}
 use Rattle.warp.specs.WellFormed.{fixedOkOf, wellFormedOf}
-use Rattle.warp.specs.Formed.{FixedOk, fixed-ok}
+use Rattle.warp.specs.Facts.{FixedOk}
+use Rattle.warp.proofs.Formed.{fixed-ok}
 use Rattle.definition.specs.State.{State, fixedOf, active, memoryOf, instrAt}
 use Rattle.definition.specs.Refuse.{mixed, refusalsOf, stepTests}
 use Rattle.definition.specs.Exec.{Effect, goes, writes, stores, effect, effectOf}

@@ -11,8 +11,7 @@ use Rattle.lanes.specs.Mask.{bitAt}
 use Rattle.warp.specs.declared.Launch.{Launch}
 use Rattle.warp.specs.Warp.{splitCount, nextPc}
 use Rattle.warp.specs.Splits.{opened, lastSplit}
-use Rattle.warp.specs.Chain.{parkedIn}
-use Rattle.warp.specs.Moves.{CutInTwo}
+use Rattle.warp.specs.Parked.{parkedIn, CutInTwo}
 use Rattle.definition.specs.State.{State, outcome, pcBy, elseOf, instrAt}
 use Rattle.definition.specs.Step.{stepOf}
 use Rattle.promises.specs.Reached.{Goes, Reached}

@@ -14,7 +14,7 @@ use Rattle.warp.specs.declared.Split.{Split}
 use Rattle.warp.specs.declared.Warp.{Warp}
 use Rattle.warp.specs.Warp.{splitCount, aligned}
 use Rattle.warp.specs.WellFormed.{fixedOkOf, splitOkOf, chainOf, isZero, allZero, wellFormedOf}
-use Rattle.warp.specs.Chain.{chain-step, chain-end, zero-step, zero-end}
+use Rattle.warp.proofs.Chain.{chain-step, chain-end, zero-step, zero-end}
 use Rattle.running.specs.Words.{splitSize, flatCount, isSet, isFlag, depthIn, pcIn, maskIn, endedIn, waitingIn, fixedIn, phaseAt, splitAt, splitsIn, warpOf, phasesOkOf, soundOf, splitsWords, movingWords, fixedWords}
 use Rattle.running.proofs.Splits.{splits-length, splits-get, phases-step}
 use Rattle.running.proofs.Words.{apart, apart-sound}

@@ -13,10 +13,10 @@ use Rattle.warp.specs.declared.Split.{Split}
 use Rattle.warp.specs.declared.Warp.{Warp}
 use Rattle.warp.specs.Warp.{splitCount, maxThreads, zeroSplit, setX, withPc, withRpc, withPrint, withStop, withSplits, writeX, next, linked}
 use Rattle.warp.specs.Splits.{opened, openOf, parted, lastSplit, turned, turnOf, closeOf, joinOf, setRpcOf}
-use Rattle.warp.specs.SplitLaws.{join-none, join-off, join-turn, join-close, parted-none, parted-all, parted-opens}
+use Rattle.warp.proofs.SplitLaws.{join-none, join-off, join-turn, join-close, parted-none, parted-all, parted-opens}
 use Rattle.warp.specs.Csr.{isPrint, csrAt, csrNew, csrDone, withCsr, writesOf}
-use Rattle.warp.specs.CsrLaws.{csr-reads, csr-writes}
-use Rattle.warp.specs.Moves.{cut-two}
+use Rattle.warp.proofs.CsrLaws.{csr-reads, csr-writes}
+use Rattle.warp.proofs.Moves.{cut-two}
 use Rattle.word.specs.Word.{addOf, extendOf, flagOf}
 use Rattle.running.specs.Words.{movingCount, flatCount, rpcAt, printAt, endedAt, waitingAt, pcIn, maskIn, rpcIn, depthIn, endedIn, waitingIn, splitAt, warpOf, soundOf}
 use Rattle.running.specs.Goes.{goIn, nextIn, resumeIn, csrIn, putSplit, Goes}

@@ -1,5 +1,5 @@
 -- A warp's words and the warp that words stand for.
-use Prim.Native.Nat.{ℕ, _+_, _^_, _≤_, _<_}
+use Prim.Native.Nat.{ℕ, _+_, _≤_}
 use mathlib.Core.Path.{_≡_, refl, sym, _∙_, ap}
 use mathlib.Core.Bool.{true}
 use mathlib.Core.List.{List, [], _∷_, _++_, append-assoc}
@@ -13,10 +13,10 @@ use Rattle.answer.proofs.Rows.{every-at}
 use Rattle.warp.specs.declared.Warp.{Warp}
 use Rattle.warp.specs.Warp.{scalarCount, splitCount, maxThreads}
 use Rattle.warp.specs.WellFormed.{wellFormedOf}
-use Rattle.warp.specs.Formed.{Formed, formed, FixedOk, fixed-ok, held-of, mask-small}
-use Rattle.warp.specs.Moves.{room}
+use Rattle.warp.proofs.Formed.{formed, held-of}
+use Rattle.warp.proofs.Moves.{room}
 use Rattle.running.specs.Words.{flatCount, movingCount, fixedCount, movingStart, fixedStart, stateWords, isFlag, depthIn, maskIn, endedIn, waitingIn, fixedIn, warpOf, phasesOkOf, soundOf, splitsWords, movingWords, fixedWords, wordsOf, scalarPart, splitPart, movingPart, fixedPart, warpIn, soundIn}
-use Rattle.running.specs.Goes.{Goes, Lent}
+use Rattle.running.specs.Goes.{Lent}
 use Rattle.running.proofs.Lists.{cells, cells-are, seven}
 use Rattle.running.proofs.Splits.{flag-bit, flag-is, flag-word, splits-length, words-length, splits-back, words-phases, flat-back}
 
@@ -54,9 +54,6 @@ module _ (w : Warp) (l : length (w .splits) ≡ splitCount) where
   pub apart-sound : w .depth ≤ splitCount → soundOf (movingWords w) (splitsWords (w .splits)) ≡ true
   apart-sound d =
       sound-whole (movingWords w) (splitsWords (w .splits)) (record { deep = d; ended = flag-is (w .ended); waiting = flag-is (w .waiting); phases = words-phases (w .splits) l })
-
-  pub lent : Formed w → Lent (fixedWords (w .fixed)) (movingWords w) (w .x) (splitsWords (w .splits))
-  lent k = record { long = refl; room = flat-long; formed = rw apart k; sound = apart-sound (k .deep) }
 
 -- Sound words are the words of the warp that they stand for.
 module _ (g h x s : List ℕ) (lg : length g ≡ fixedCount) (lh : length h ≡ movingCount) (ls : length s ≡ flatCount) (o : soundOf h s ≡ true) where
@@ -97,9 +94,6 @@ module _ (t : List ℕ) (l : length t ≡ stateWords) where
       ∙ ap (λ (a : List ℕ). a ++ fixedPart t) (sym (take-add movingStart movingCount t))
       ∙ sym (take-add fixedStart fixedCount t)
       ∙ take-all stateWords t (omega arith)
-
-  pub scalar-long : length (scalarPart t) ≡ scalarCount
-  scalar-long = length-take-le scalarCount t (omega arith)
 
   pub split-long : length (splitPart t) ≡ flatCount
   split-long = length-take-le flatCount (drop scalarCount t) (simp length-drop (omega arith))
@@ -151,15 +145,3 @@ module _ (g h x s : List ℕ) (l : Lent g h x s) where
   pub lent-room : depthIn h + ones (maskIn h) ≤ maxThreads
   unfolding warpOf
   lent-room = room (warpOf g h x s) (held-of (warpOf g h x s) (l .formed)) .0
-
-  pub lent-fixed : FixedOk (fixedIn g)
-  unfolding warpOf
-  lent-fixed = fixed-ok (fixedIn g) (l .formed .fixed)
-
-  pub lent-mask : maskIn h < 2 ^ fixedIn g .numt
-  unfolding warpOf
-  lent-mask = mask-small (warpOf g h x s) (l .formed)
-
--- and what it gives back
-pub lent-on : (f : Warp → Warp) (g h x s h' x' s' : List ℕ) → Goes f g h x s h' x' s' → Lent g h x s → Formed (f (warpOf g h x s)) → Lent g h' x' s'
-lent-on f g h x s h' x' s' e l k = record { long = e .long; room = e .room; formed = rw (e .goes) k; sound = e .sound (l .sound) }

@@ -8,7 +8,7 @@ use lib.Seq.{sets}
 use Rattle.warp.specs.declared.Split.{Split}
 use Rattle.warp.specs.declared.Warp.{Warp}
 use Rattle.warp.specs.Csr.{isPrint}
-use Rattle.warp.specs.Formed.{Formed}
+use Rattle.warp.specs.Facts.{Formed}
 use Rattle.word.specs.Word.{addOf}
 use Rattle.running.specs.Words.{splitSize, flatCount, movingCount, depthAt, pcAt, maskAt, rpcAt, printAt, pcIn, splitWords, warpOf, soundOf}
 

@@ -2,12 +2,12 @@
 ghost use mathlib.Core.Path.{_≡_};
 ghost use mathlib.Core.Bool.{_&&_, cond};
 ghost use mathlib.Core.List.{List};
-ghost use Prim.Native.Nat.{ℕ, _+_, _-_, _*_, _^_, _≤_, _<_};
+ghost use Prim.Native.Nat.{ℕ, _+_, _-_, _^_, _≤_, _<_};
 ghost use lib.ListN.{length, getD, drop};
 ghost use lib.Bits.{bitAnd};
 ghost use lib.Count.{ones};
 ghost use Rattle.warp.specs.Warp.{scalarCount, splitCount, maxThreads, setX, linked};
-ghost use Rattle.warp.specs.Formed.{FixedOk};
+ghost use Rattle.warp.specs.Facts.{FixedOk};
 ghost use Rattle.warp.specs.WellFormed.{splitOkOf, chainOf, allZero, wellFormedOf};
 ghost use Rattle.warp.specs.Splits.{openOf, parted, joinOf, setRpcOf};
 ghost use Rattle.warp.specs.Csr.{csrAt, csrNew, csrDone, writesOf};

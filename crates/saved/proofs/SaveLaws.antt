@@ -11,8 +11,7 @@ use Rattle.answer.proofs.Numbers.{number-one}
 use Rattle.warp.specs.declared.Warp.{Warp}
 use Rattle.warp.specs.Warp.{splitCount, zeroWarp, Answered, answered}
 use Rattle.running.specs.Words.{stateWords, splitPart, movingPart, warpOf, splitsWords, wordsOf, warpIn, soundIn}
-use Rattle.running.proofs.Splits.{splits-length}
-use Rattle.running.proofs.Words.{sound-parts, warp-words}
+use Rattle.running.proofs.Words.{sound-parts}
 use Rattle.saved.specs.declared.Restored.{Restored}
 use Rattle.saved.specs.Saved.{Saving, saving, saveOf, restoreOf}
 
@@ -52,17 +51,10 @@ pub zero-words : wordsOf zeroWarp ≡ replicate stateWords 0
 unfolding wordsOf zeroWarp splitsWords
 zero-words = refl
 
-pub warp-long : (t : List ℕ) → length (warpIn t .splits) ≡ splitCount
-unfolding warpOf
-warp-long t = splits-length splitCount (splitPart t)
-
 module _ (t : List ℕ) (ok : soundIn t ≡ true) where
   pub warp-deep : warpIn t .depth ≤ splitCount
   unfolding warpOf
   warp-deep = sound-parts (movingPart t) (splitPart t) ok .deep
-
-  pub save-same : length t ≡ stateWords → saving 0 t ≡ saveOf (warpIn t) t
-  save-same l = ap (saving 0) (sym (warp-words t l ok)) ∙ save-done (warpIn t) t l warp-deep
 
 -- ---- two results that a contract allows
 

@@ -2,8 +2,5 @@ pub mod Warp
 pub mod WellFormed
 pub mod Splits
 pub mod Csr
-pub mod SplitLaws
-pub mod CsrLaws
-pub mod Chain
-pub mod Moves
-pub mod Formed
+pub mod Facts
+pub mod Parked

@@ -1,2 +1,1 @@
 pub mod Word
-pub mod Cases

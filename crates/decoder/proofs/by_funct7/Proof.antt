@@ -4,7 +4,7 @@ use Rattle.answer.specs.Rows.{_⇒_}
 use Rattle.isa.specs.declared.Instr.the-variants.{Refused}
 use Rattle.isa.specs.Fields.{fieldsOf}
 use Rattle.isa.specs.Kinds.{rowOf}
-use Rattle.isa.specs.Laws.{past}
+use Rattle.isa.proofs.Laws.{past}
 use Rattle.decoder.proofs.by_funct7.Statement.{statement}
 use Rattle.decoder.proofs.by_funct7.Tie as tie
 

@@ -7,7 +7,7 @@ use Rattle.isa.specs.Fields.{fieldsOf}
 use Rattle.isa.specs.Table.{on, wordsOf}
 use Rattle.isa.specs.Scalar.{immediates, immediateAs, shifts, opImmOf}
 use Rattle.isa.specs.Kinds.{rowOf}
-use Rattle.isa.specs.Laws.{past}
+use Rattle.isa.proofs.Laws.{past}
 use Rattle.decoder.proofs.op_imm.Statement.{statement}
 use Rattle.decoder.proofs.op_imm.Tie as tie
 

@@ -6,7 +6,7 @@ use Rattle.isa.specs.Fields.{fieldsOf}
 use Rattle.isa.specs.Table.{on}
 use Rattle.isa.specs.Decode.{opcodes, decodeOf}
 use Rattle.isa.specs.Kinds.{rowOf}
-use Rattle.isa.specs.Laws.{past}
+use Rattle.isa.proofs.Laws.{past}
 use Rattle.decoder.proofs.other.Statement.{statement}
 use Rattle.decoder.proofs.other.Tie as tie
 

@@ -5,7 +5,7 @@ use Rattle.isa.specs.Fields.{fieldsOf}
 use Rattle.isa.specs.Table.{on, wordsOf}
 use Rattle.isa.specs.Scalar.{rightShifts, shiftAs, shiftOf}
 use Rattle.isa.specs.Kinds.{rowOf}
-use Rattle.isa.specs.Laws.{past}
+use Rattle.isa.proofs.Laws.{past}
 use Rattle.decoder.proofs.right_shift.Statement.{statement}
 use Rattle.decoder.proofs.right_shift.Tie as tie
 

@@ -8,7 +8,7 @@ use Rattle.isa.specs.Fields.{fieldsOf}
 use Rattle.isa.specs.Table.{on}
 use Rattle.isa.specs.Ventus.{stops, stopOf}
 use Rattle.isa.specs.Kinds.{rowOf}
-use Rattle.isa.specs.Laws.{past}
+use Rattle.isa.proofs.Laws.{past}
 use Rattle.decoder.proofs.stop.Statement.{statement}
 use Rattle.decoder.proofs.stop.Tie as tie
 

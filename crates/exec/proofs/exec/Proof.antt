@@ -6,7 +6,7 @@ use Rattle.exec.specs.Steps.{puts}
 use Rattle.isa.proofs.Words.{auipc-is, branch-is, csr-is, fence-is, jal-is, jalr-is, load-is, lui-is, store-is, vector-is}
 use Rattle.isa.specs.Fields.{fieldsOf, immU, x as xOf}
 use Rattle.isa.specs.Kinds.{laneGroups, ofImmediates, ofRegisters, rowOf, scalarGroups, vectorKinds}
-use Rattle.isa.specs.Laws.{past}
+use Rattle.isa.proofs.Laws.{past}
 use Rattle.isa.specs.Table.{on}
 use Rattle.isa.specs.declared.Instr.the-variants as I
 use Rattle.isa.specs.declared.Instr.the-variants.{Refused}

@@ -2,7 +2,7 @@ use Rattle.exec.proofs.Laws.{lane-load-arm, lane-store-arm, ready-lanes
 use Rattle.isa.proofs.Words.{barrier-is, endprg-is, join-is, pload-is, pstore-is, setrpc-is, vbranch-is, vid-is, vload-is, vmove-is, vmove-sx-is, vmove-xs-is, vstore-is}
 use Rattle.isa.specs.Fields.{fieldsOf}
 use Rattle.isa.specs.Kinds.{laneGroups, ofImmediates, ofRegisters}
-use Rattle.isa.specs.Laws.{past}
+use Rattle.isa.proofs.Laws.{past}
 use Rattle.isa.specs.Table.{on}
 use Rattle.isa.specs.declared.Instr.the-variants.{Refused}
 use Rattle.isa.specs.declared.Space.the-variants.{Plain, Private}

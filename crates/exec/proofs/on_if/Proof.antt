@@ -1,4 +1,3 @@
-use Rattle.warp.specs.Warp.{next}
 use borrow.Author.Needs.{needs}
 use mathlib.Core.Path.{refl}
 use Rattle.exec.proofs.on_if.Statement.{statement}

@@ -3,7 +3,7 @@ use Rattle.exec.proofs.Laws.{imm-arm, refused, told}
 use Rattle.exec.specs.Steps.{lists}
 use Rattle.isa.specs.Fields.{fieldsOf, immI}
 use Rattle.isa.specs.Kinds.{ofImmediates, rowOf}
-use Rattle.isa.specs.Laws.{past}
+use Rattle.isa.proofs.Laws.{past}
 use Rattle.isa.specs.Table.{on}
 use Rattle.isa.specs.declared.Instr.the-variants as I
 use Rattle.isa.specs.declared.Instr.the-variants.{Refused}

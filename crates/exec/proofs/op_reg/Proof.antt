@@ -2,7 +2,7 @@ use Rattle.definition.specs.Refuse.{refusalsOf}
 use Rattle.exec.proofs.Laws.{reg-arm}
 use Rattle.isa.specs.Fields.{fieldsOf}
 use Rattle.isa.specs.Kinds.{ofImmediates, ofProducts, ofSums, rowOf}
-use Rattle.isa.specs.Laws.{past}
+use Rattle.isa.proofs.Laws.{past}
 use Rattle.isa.specs.Table.{on}
 use Rattle.isa.specs.declared.Instr.the-variants.{Refused}
 use Rattle.word.specs.Word.{applyOf}

@@ -2,7 +2,7 @@
 use Rattle.answer.specs.Rows.{_⇒_}
 use Rattle.isa.specs.Fields.{fieldsOf}
 use Rattle.isa.specs.Kinds.{sourceOf as sourceIn}
-use Rattle.isa.specs.Laws.{past}
+use Rattle.isa.proofs.Laws.{past}
 use Rattle.isa.specs.Vector.{fromI, fromV, fromX}
 use Rattle.running.specs.Words.{warpOf}
 use borrow.Author.Needs.{needs}

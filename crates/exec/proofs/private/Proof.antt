@@ -1,5 +1,5 @@
 use Rattle.running.specs.Words.{fixedIn}
-use Rattle.warp.specs.Formed.{tid-small}
+use Rattle.warp.proofs.Formed.{tid-small}
 use borrow.Author.Needs.{needs}
 use mathlib.Core.Path.{refl}
 use native.Mathlib.Omega.{arith}

@@ -8,7 +8,6 @@ use Rattle.isa.specs.declared.Instr.the-variants as I
 use Rattle.memory.specs.Address.{plainOf}
 use Rattle.memory.specs.Memory.{insideOf, memory, storeOf, widthOf}
 use Rattle.running.specs.Words.{fixedIn, warpOf}
-use Rattle.warp.specs.Warp.{next}
 use borrow.Author.Needs.{needs}
 use lib.ListN.{getD}
 use mathlib.Core.Path.{_∙_, ap, ap₂, refl, sym}

@@ -7,12 +7,12 @@ use Rattle.isa.specs.Fields.{fieldsOf, immB, v as vOf}
 use Rattle.isa.specs.Kinds.{condOf}
 use Rattle.isa.specs.declared.Instr.the-variants as I
 use Rattle.lanes.specs.Lanes.{maskOf, wantsOf}
-use Rattle.lanes.specs.MaskLaws.{part-in}
+use Rattle.lanes.proofs.MaskLaws.{part-in}
 use Rattle.running.specs.Words.{fixedIn, maskIn, pcIn, warpOf}
 use Rattle.warp.specs.Splits.{parted}
 use Rattle.word.specs.Word.{addOf, extendOf}
 use borrow.Author.Needs.{needs}
-use mathlib.Core.Bool.{cond, false, true}
+use mathlib.Core.Bool.{false, true}
 use mathlib.Core.Path.{_∙_, ap, ap₂, sym}
 use native.Mathlib.Omega.{arith}
 use Rattle.exec.proofs.vbranch.Statement.{statement}

@@ -7,7 +7,6 @@ use Rattle.isa.specs.Kinds.{opLimit, vectorWord}
 use Rattle.isa.specs.Number.{opAt}
 use Rattle.lanes.specs.Mask.{bit}
 use Rattle.running.specs.Words.{maskIn, warpOf}
-use Rattle.warp.specs.Warp.{next}
 use borrow.Author.Needs.{needs}
 use mathlib.Core.Path.{_∙_, refl}
 use native.Mathlib.Omega.{arith}

@@ -5,7 +5,6 @@ use Rattle.isa.specs.Fields.{fieldsOf, v as vOf}
 use Rattle.isa.specs.declared.Instr.the-variants as I
 use Rattle.lanes.specs.Mask.{bit}
 use Rattle.running.specs.Words.{maskIn, warpOf}
-use Rattle.warp.specs.Warp.{next}
 use borrow.Author.Needs.{needs}
 use mathlib.Core.Path.{_∙_, refl}
 use native.Mathlib.Omega.{arith}

@@ -6,7 +6,6 @@ use Rattle.isa.specs.Kinds.{sourceOf as sourceIn}
 use Rattle.isa.specs.declared.Instr.the-variants as I
 use Rattle.lanes.specs.Mask.{bit}
 use Rattle.running.specs.Words.{maskIn, warpOf}
-use Rattle.warp.specs.Warp.{next}
 use borrow.Author.Needs.{needs}
 use mathlib.Core.Path.{_∙_, refl}
 use native.Mathlib.Omega.{arith}

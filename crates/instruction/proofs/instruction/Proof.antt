@@ -7,7 +7,7 @@ use Rattle.isa.specs.declared.Instr.the-variants.{Refused}
 use Rattle.isa.specs.Fields.{fieldsOf}
 use Rattle.isa.specs.Table.{on}
 use Rattle.isa.specs.Kinds.{scalarGroups, laneGroups, ofRegisters, ofImmediates, rowOf}
-use Rattle.isa.specs.Laws.{past}
+use Rattle.isa.proofs.Laws.{past}
 use Rattle.isa.proofs.Words.{vector-is}
 use Rattle.instruction.proofs.instruction.Statement.{statement}
 use Rattle.instruction.proofs.instruction.Tie as tie

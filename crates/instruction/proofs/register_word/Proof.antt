@@ -5,7 +5,7 @@ use Rattle.isa.specs.declared.Instr.the-variants.{Refused}
 use Rattle.isa.specs.Fields.{fieldsOf}
 use Rattle.isa.specs.Table.{on}
 use Rattle.isa.specs.Kinds.{ofRegisters, ofImmediates}
-use Rattle.isa.specs.Laws.{past}
+use Rattle.isa.proofs.Laws.{past}
 use Rattle.instruction.proofs.register_word.Statement.{statement}
 use Rattle.instruction.proofs.register_word.Tie as tie
 

@@ -8,7 +8,7 @@ use Rattle.word.specs.Word.{holdsOf}
 use Rattle.lanes.specs.Mask.{bit}
 use Rattle.lanes.specs.Lanes.{wantsOf}
 use Rattle.lanes.specs.Rows.{holdsLane}
-use Rattle.lanes.specs.MaskLaws.{mask-same, and-bits}
+use Rattle.lanes.proofs.MaskLaws.{mask-same, and-bits}
 use Rattle.lanes.proofs.else_mask.Statement.{statement}
 use Rattle.lanes.proofs.else_mask.Tie as tie
 

@@ -5,8 +5,8 @@ use native.Mathlib.Nat.{le-antisymm}
 use borrow.Author.Needs.{needs}
 use Rattle.lanes.specs.Lanes.{maskOf}
 use Rattle.lanes.specs.Rows.{holdsLane}
-use Rattle.lanes.specs.Laws.{each-none}
-use Rattle.lanes.specs.MaskLaws.{mask-lt}
+use Rattle.lanes.proofs.Laws.{each-none}
+use Rattle.lanes.proofs.MaskLaws.{mask-lt}
 use Rattle.lanes.proofs.RowLaws.{mask-turn}
 use Rattle.lanes.proofs.hold.Statement.{statement}
 use Rattle.lanes.proofs.hold.Tie as tie

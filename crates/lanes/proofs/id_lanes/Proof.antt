@@ -3,7 +3,7 @@ use native.Mathlib.Omega.{arith}
 use borrow.Author.Needs.{needs}
 use Rattle.lanes.specs.Mask.{bit}
 use Rattle.lanes.specs.Rows.{at}
-use Rattle.lanes.specs.Laws.{write-same}
+use Rattle.lanes.proofs.Laws.{write-same}
 use Rattle.lanes.proofs.id_lanes.Statement.{statement}
 use Rattle.lanes.proofs.id_lanes.Tie as tie
 

@@ -5,7 +5,7 @@ use Rattle.word.specs.Word.{applyOf}
 use Rattle.lanes.specs.Mask.{bit}
 use Rattle.lanes.specs.Lanes.{opLane}
 use Rattle.lanes.specs.Rows.{mapLane}
-use Rattle.lanes.specs.Laws.{write-same}
+use Rattle.lanes.proofs.Laws.{write-same}
 use Rattle.lanes.proofs.RowLaws.{each-numt}
 use Rattle.lanes.proofs.op_lanes.Statement.{statement}
 use Rattle.lanes.proofs.op_lanes.Tie as tie

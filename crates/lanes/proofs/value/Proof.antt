@@ -6,7 +6,7 @@ use borrow.Author.Needs.{needs}
 use Rattle.lanes.specs.Mask.{bit}
 use Rattle.lanes.specs.Lanes.{valueOf}
 use Rattle.lanes.specs.Rows.{at}
-use Rattle.lanes.specs.Laws.{each-none}
+use Rattle.lanes.proofs.Laws.{each-none}
 use Rattle.lanes.proofs.RowLaws.{value-turn}
 use Rattle.lanes.proofs.value.Statement.{statement}
 use Rattle.lanes.proofs.value.Tie as tie

@@ -1,7 +1,7 @@
 use mathlib.Core.Path.{_≡_, sym, _∙_}
 use lib.ListN.{length}
 use borrow.Author.Tests.{not-true, not-false}
-use Rattle.warp.specs.Chain.{mapped}
+use Rattle.warp.proofs.Chain.{mapped}
 use Rattle.warp.specs.Warp.{splitCount}
 use Rattle.running.proofs.Formed.{deep-malformed}
 use Rattle.definition.proofs.Calls.{run-size, run-malformed}

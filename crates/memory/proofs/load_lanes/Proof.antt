@@ -2,7 +2,7 @@ use mathlib.Core.Path.{_≡_, refl, sym, _∙_}
 use borrow.Author.Needs.{needs}
 use Rattle.lanes.specs.Mask.{bit}
 use Rattle.lanes.specs.Rows.{at}
-use Rattle.lanes.specs.Laws.{write-same}
+use Rattle.lanes.proofs.Laws.{write-same}
 use Rattle.memory.specs.Memory.{memory, sizeOf, loadOf}
 use Rattle.memory.specs.LaneAccess.{allInside}
 use Rattle.memory.proofs.load_lanes.Statement.{statement}

@@ -6,8 +6,8 @@ use native.Mathlib.Nat.{le-antisymm}
 use native.Mathlib.Omega.{arith}
 use borrow.Author.Needs.{needs}
 use Rattle.lanes.specs.Lanes.{maskOf}
-use Rattle.lanes.specs.Laws.{each-none}
-use Rattle.lanes.specs.MaskLaws.{mask-lt}
+use Rattle.lanes.proofs.Laws.{each-none}
+use Rattle.lanes.proofs.MaskLaws.{mask-lt}
 use Rattle.lanes.specs.Rows.{at}
 use Rattle.lanes.proofs.RowLaws.{mask-turn}
 use Rattle.memory.specs.Memory.{Memory, memory, insideOf}

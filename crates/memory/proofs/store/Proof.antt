@@ -7,7 +7,7 @@ use native.Mathlib.Omega.{arith}
 use lib.ListN.{length}
 use borrow.Author.Needs.{needs}
 use Rattle.lanes.specs.Mask.{bit}
-use Rattle.lanes.specs.Laws.{each-none, each-on, each-off}
+use Rattle.lanes.proofs.Laws.{each-none, each-on, each-off}
 use Rattle.lanes.specs.Rows.{at}
 use Rattle.memory.specs.Memory.{memory, widthOf, storeOf}
 use Rattle.memory.specs.LaneAccess.{storeLanes}

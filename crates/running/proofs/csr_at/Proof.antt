@@ -1,6 +1,6 @@
 use mathlib.Core.Path.{refl}
 use native.Mathlib.Omega.{arith}
-use Rattle.warp.specs.Formed.{tid-small}
+use Rattle.warp.proofs.Formed.{tid-small}
 use Rattle.warp.specs.Csr.{csrAt}
 use Rattle.running.specs.Words.{fixedIn, warpOf}
 use borrow.Author.Needs.{needs}

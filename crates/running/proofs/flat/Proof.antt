@@ -4,7 +4,7 @@ use native.Mathlib.Omega.{arith}
 use lib.ListN.{length, drop, length-set}
 use lib.Seq.{sets}
 use borrow.Author.Needs.{needs}
-use Rattle.warp.specs.Chain.{mapped}
+use Rattle.warp.proofs.Chain.{mapped}
 use Rattle.warp.specs.Warp.{splitCount}
 use Rattle.running.specs.Words.{flatCount, splitSize, splitsWords}
 use Rattle.running.proofs.Lists.{sets-over}

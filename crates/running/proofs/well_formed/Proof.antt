@@ -1,6 +1,6 @@
 use mathlib.Core.Path.{_≡_, sym, _∙_}
 use lib.ListN.{length}
-use Rattle.warp.specs.Chain.{mapped}
+use Rattle.warp.proofs.Chain.{mapped}
 use Rattle.warp.specs.Warp.{splitCount}
 use Rattle.running.proofs.Formed.{deep-malformed, apart-formed}
 use borrow.Author.Needs.{needs}

@@ -5,7 +5,7 @@ use Rattle.isa.specs.Fields.{fieldsOf}
 use Rattle.isa.specs.Vector.{multiplyTable}
 use Rattle.isa.specs.Number.{opAt}
 use Rattle.isa.specs.Kinds.{vectorWord, rowOf}
-use Rattle.isa.specs.Laws.{past}
+use Rattle.isa.proofs.Laws.{past}
 use Rattle.decoder.proofs.vector.multiply_row.Statement.{statement}
 use Rattle.decoder.proofs.vector.multiply_row.Tie as tie
 

@@ -7,7 +7,7 @@ use Rattle.isa.specs.Fields.{fieldsOf}
 use Rattle.isa.specs.Table.{on}
 use Rattle.isa.specs.Vector.{operands, operandsOf}
 use Rattle.isa.specs.Kinds.{rowOf}
-use Rattle.isa.specs.Laws.{past}
+use Rattle.isa.proofs.Laws.{past}
 use Rattle.decoder.proofs.vector.operands.Statement.{statement}
 use Rattle.decoder.proofs.vector.operands.Tie as tie
 

@@ -5,7 +5,7 @@ use Rattle.isa.specs.Fields.{fieldsOf}
 use Rattle.isa.specs.Vector.{vectorTable}
 use Rattle.isa.specs.Number.{opAt}
 use Rattle.isa.specs.Kinds.{vectorWord, rowOf}
-use Rattle.isa.specs.Laws.{past}
+use Rattle.isa.proofs.Laws.{past}
 use Rattle.decoder.proofs.vector.row.Statement.{statement}
 use Rattle.decoder.proofs.vector.row.Tie as tie
 

@@ -6,7 +6,7 @@ use Rattle.answer.specs.Rows.{_⇒_}
 use Rattle.isa.specs.declared.Source.the-variants as From
 use Rattle.isa.specs.Fields.{fieldsOf}
 use Rattle.isa.specs.Vector.{fromV, fromX, fromI}
-use Rattle.isa.specs.Laws.{past}
+use Rattle.isa.proofs.Laws.{past}
 use Rattle.isa.specs.Kinds.{sourceOf}
 use Rattle.isa.proofs.fields.source.Statement.{statement}
 use Rattle.isa.proofs.fields.source.Tie as tie

@@ -17,12 +17,13 @@ use Rattle.warp.specs.declared.Split.{Split}
 use Rattle.warp.specs.declared.Warp.{Warp}
 use Rattle.answer.proofs.Rows.{both}
 use Rattle.lanes.specs.Mask.{bitAt}
-use Rattle.lanes.specs.MaskLaws.{cut-bit, cut-ones, ones-pos}
+use Rattle.lanes.proofs.MaskLaws.{cut-bit, cut-ones, ones-pos}
 use Rattle.warp.specs.Warp.{splitCount, maxThreads, zeroSplit}
 use Rattle.warp.specs.WellFormed.{splitOkOf, chainOf}
 use Rattle.warp.specs.Splits.{opened, openOf, lastSplit, turned, turnOf, closeOf, joinOf}
-use Rattle.warp.specs.SplitLaws.{by-cond}
-use Rattle.warp.specs.Chain.{Good, good, parkedIn, covered, fewer, chain-step, chain-set, chain-more}
+use Rattle.warp.proofs.SplitLaws.{by-cond}
+use Rattle.warp.specs.Parked.{parkedIn, CutInTwo}
+use Rattle.warp.proofs.Chain.{Good, good, covered, fewer, chain-step, chain-set, chain-more}
 
 -- active lanes that disagree: those of e, some but not all, go to p
 pub record Cuts (e p : ℕ) (w : Warp) : Type 0 where
@@ -73,12 +74,6 @@ room w h = omega (arith, fewer (w .fixed .launchmask) (w .splits) (w .depth) (w 
 -- The split records never overflow.
 pub fits : (e p : ℕ) (w : Warp) → Held w → Cuts e p w → w .depth < splitCount
 fits e p w h o = omega (arith, room w h, cut-two e (w .mask) (o .within) (o .some) (o .strict))
-
--- m is cut in two: neither part is empty, and each lane of m is in one of them alone
-pub record CutInTwo (m a b : ℕ) : Type 0 where
-  pub one : 0 < a
-  pub other : 0 < b
-  pub lanes : (l : ℕ) → bitAt l m ≡ bitAt l a + bitAt l b
 
 -- Opening cuts the active mask in two, the lanes that run and those that are parked.
 pub split-cuts : (e p : ℕ) (w : Warp) → Held w → Cuts e p w → CutInTwo (w .mask) (lastSplit (openOf e p w) .elsemask) (openOf e p w .mask)

@@ -1,14 +1,14 @@
 -- Laws of lane masks: a mask cut in two, and the mask of the lanes where a test holds.
-use mathlib.Core.Path.{_≡_, refl, sym, ap, ap₂, _∙_, subst}
+use mathlib.Core.Path.{_≡_, refl, sym, ap, ap₂, _∙_}
 use mathlib.Core.Bool.{Bool, true, false, not, _&&_, and-true, and-false, and-self-left}
 use mathlib.Core.Logic.{⊎-elim}
 use mathlib.Core.List.{List}
 use Prim.Native.Nat.{ℕ, zero, suc, _+_, _-_, _*_, _/_, _%_, _^_, _≤_, _<_, min}
-use native.Mathlib.Nat.{eq-zero-or-pos, div-one, mod-eq-of-lt, mod-one, one-mul, zero-mul, pow-suc, le-refl, lt-of-lt-of-le, div-eq-of-lt, add-div-right, add-mul-div-right, add-mul-mod-self-right, mul-assoc, mul-comm}
+use native.Mathlib.Nat.{eq-zero-or-pos, div-one, mod-eq-of-lt, mod-one, one-mul, zero-mul, pow-suc, le-refl, lt-of-lt-of-le, div-eq-of-lt}
 use native.Mathlib.Numerals.{one-add}
 use native.Mathlib.Omega.{arith}
 use lib.Arith.{bin-ind}
-use lib.Pow.{pow-pos, pow-mono, pow-add, shr-shr, mod-pow-add}
+use lib.Pow.{pow-pos, pow-mono, shr-shr, mod-pow-add}
 use lib.Bits.{bitAnd, and-step, and-le-r, and-block}
 use lib.Count.{ones, onesIn, ones-step}
 use lib.Dec.{eqb}
@@ -18,7 +18,7 @@ use Rattle.word.specs.declared.Cond.{Cond}
 use Rattle.isa.specs.declared.VReg.{VReg}
 use Rattle.lanes.specs.Mask.{bitAt, bit}
 use Rattle.lanes.specs.Lanes.{stepIf, eachLane, maskOf, allLanes, laneOf, wantsOf}
-use Rattle.lanes.specs.Laws.{newest, each-grows, each-same}
+use Rattle.lanes.proofs.Laws.{each-grows, each-same}
 
 -- ---- lane l's digit
 pub bit-zero : (m : ℕ) → bitAt 0 m ≡ m % 2
@@ -28,10 +28,6 @@ bit-zero m = ap (λ (x : ℕ). x % 2) (div-one m)
 pub bit-suc : (l m : ℕ) → bitAt (suc l) m ≡ bitAt l (m / 2)
 unfolding bitAt
 bit-suc l m = sym (ap (λ (x : ℕ). x % 2) (shr-shr m 1 l ∙ ap (λ (k : ℕ). m / 2 ^ k) (one-add l)))
-
-pub bit-le : (l m : ℕ) → bitAt l m ≤ 1
-unfolding bitAt
-bit-le l m = omega arith
 
 -- no lane at or above n
 pub bit-above : (m n l : ℕ) → m < 2 ^ n → n ≤ l → bit m l ≡ false
@@ -79,40 +75,6 @@ mask-lt on n = each-grows on _ 0 (λ i m. m < 2 ^ i) (le-refl 1) n (λ l m h t q
 pub mask-same : (p q : ℕ → Bool) (n : ℕ) → ((l : ℕ) → l < n → p l ≡ q l) → maskOf n p ≡ maskOf n q
 mask-same p q n e = each-same p q (λ k z. z + 2 ^ k) (λ k z. z + 2 ^ k) 0 n e (λ l u h t. refl)
 
-top-bit : (m l : ℕ) → m < 2 ^ l → bit (m + 2 ^ l) l ≡ true
-unfolding bitAt
-top-bit m l h = rw (add-div-right m (pow-pos l), div-eq-of-lt h)
-
-wider : (k l : ℕ) → k < l → 2 ^ l ≡ 2 ^ (l - suc k) * 2 * 2 ^ k
-wider k l h =
-    let e : l ≡ (l - suc k) + suc k = omega arith in
-    ap (λ (n : ℕ). 2 ^ n) e ∙ pow-add 2 (l - suc k) (suc k) ∙ ap (λ (n : ℕ). 2 ^ (l - suc k) * n) (pow-suc 2 k ∙ mul-comm (2 ^ k) 2) ∙ sym (mul-assoc (2 ^ (l - suc k)) 2 (2 ^ k))
-
-low-bit : (m k l : ℕ) → k < l → bit (m + 2 ^ l) k ≡ bit m k
-unfolding bitAt
-low-bit m k l h =
-    ap (λ (n : ℕ). eqb (n % 2) 1) (ap (λ (n : ℕ). (m + n) / 2 ^ k) (wider k l h) ∙ add-mul-div-right m (2 ^ (l - suc k) * 2) (pow-pos k))
-    ∙ ap (λ (n : ℕ). eqb n 1) (add-mul-mod-self-right (m / 2 ^ k) (2 ^ (l - suc k)) 2)
-
--- its lanes are those that the test picks
-pub mask-bit : (on : ℕ → Bool) (n k : ℕ) → k < n → bit (maskOf n on) k ≡ on k
-mask-bit on n k h =
-    each-grows on _ 0 (λ i m. (m < 2 ^ i) × ((j : ℕ) → j < i → bit m j ≡ on j)) (le-refl 1, λ j z. absurd (omega arith)) n
-    (λ l m p t q. (
-      rw pow-suc (omega (arith, q .0)),
-      λ j z. ⊎-elim
-          (λ e. subst (λ (i : ℕ). bit (m + 2 ^ l) i ≡ on i) (sym e) (top-bit m l (q .0) ∙ sym t))
-          (λ e. low-bit m j l e ∙ q .1 j e)
-          (newest z),
-    ))
-    (λ l m p t q. (
-      rw pow-suc (omega (arith, q .0)),
-      λ j z. ⊎-elim
-          (λ e. subst (λ (i : ℕ). bit m i ≡ on i) (sym e) (bit-above m l l (q .0) (le-refl l) ∙ sym t))
-          (λ e. q .1 j e)
-          (newest z),
-    )) .1 k h
-
 digit : (d p r : ℕ) → d < 2 → (t : Bool) → eqb d 1 ≡ t → d * p + r ≡ stepIf t (λ (m : ℕ). m + p) r
 digit d p r h true e = rw (eqb-true d 1 e) (rw one-mul (omega arith))
 digit d p r h false e =
@@ -130,17 +92,6 @@ mask-mod m (suc n) =
 -- a mask of n lanes is the mask of its own
 pub mask-self : (m n : ℕ) → m < 2 ^ n → m ≡ maskOf n (bit m)
 mask-self m n h = sym (mod-eq-of-lt h) ∙ mask-mod m n
-
-part : (o t : Bool) (a b c p : ℕ) → a + b ≡ c → stepIf (o && t) (λ (m : ℕ). m + p) a + stepIf (o && not t) (λ (m : ℕ). m + p) b ≡ stepIf o (λ (m : ℕ). m + p) c
-part true true a b c p e = omega arith
-part true false a b c p e = omega arith
-part false t a b c p e = e
-
--- the lanes where a test holds, and the others, make up the mask
-pub mask-split : (on c : ℕ → Bool) (n : ℕ) → maskOf n (λ l. on l && c l) + maskOf n (λ l. on l && not (c l)) ≡ maskOf n on
-unfolding eachLane
-mask-split on c zero = refl
-mask-split on c (suc n) = part (on n) (c n) _ _ _ (2 ^ n) (mask-split on c n)
 
 -- the lanes of two masks: `&`
 digitOf : Bool → ℕ
@@ -185,15 +136,6 @@ mask-zero q (suc n) = turn (q n) (maskOf n q) (allLanes n (λ l. not (q l))) (ma
 module _ (m n : ℕ) (p : ℕ → Bool) (h : m < 2 ^ n) where
   pub part-in : bitAnd (maskOf n (λ l. bit m l && p l)) m ≡ maskOf n (λ l. bit m l && p l)
   part-in = and-bits (λ l. bit m l && p l) n m h ∙ mask-same (λ l. bit m l && (bit m l && p l)) (λ l. bit m l && p l) n (λ l k. and-self-left (bit m l) (p l))
-
-  pub part-le : maskOf n (λ l. bit m l && p l) ≤ m
-  part-le = subst (λ (e : ℕ). e ≤ m) part-in (and-le-r (maskOf n (λ l. bit m l && p l)) m)
-
-  pub part-cut : (l : ℕ) → bitAt l m ≡ bitAt l (maskOf n (λ k. bit m k && p k)) + bitAt l (m - maskOf n (λ k. bit m k && p k))
-  part-cut l = cut-bit l (maskOf n (λ k. bit m k && p k)) m part-in
-
-  pub part-rest : m - maskOf n (λ l. bit m l && p l) ≡ maskOf n (λ l. bit m l && not (p l))
-  part-rest = omega (arith, mask-split (bit m) p n, mask-self m n h)
 
 -- VBRANCH's else mask looks at the lanes of m alone
 pub wants-only : (m n : ℕ) (c : Cond) (a b : VReg) (v w : List ℕ) → ((l : ℕ) → l < n → bit m l ≡ true → (r : VReg) → laneOf v r l ≡ laneOf w r l)

@@ -22,7 +22,7 @@ use Rattle.isa.specs.Vector.{Formed, vectorTable, multiplyTable, has, ve
 use Rattle.isa.specs.Ventus.{vbranchAs, joinOf, joins, splitsOf, endPrgOf, barrierOf, stops, stopOf, vstores, accesses, vloadAs, vstoreAs, laneAccessOf, ploadAs, pstoreAs, privateOf}
 use Rattle.isa.specs.Decode.{opcodes, decodeOf}
 use Rattle.isa.specs.Fits.{Range, _under_, _listed_, isIn, fieldOf, shiftOps, vectorOps, rangesOf, holdsAll, fitsOf, Holds, Fits}
-use Rattle.isa.specs.Laws.{both, Rows, found, rows-append, every, rows-tested, fixed-at}
+use Rattle.isa.proofs.Laws.{both, Rows, found, rows-append, every, rows-tested, fixed-at}
 
 -- the fields are those of a word; funct7 is what is left
 pub record Small (c : Fields) : Type 0 where

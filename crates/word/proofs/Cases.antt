@@ -9,7 +9,6 @@ use lib.IntN.{pos, negsuc}
 use mir.Syntax.{Width, w8, w16}
 use mir.Val.{toZ, sel, bits}
 use Rattle.word.specs.Word.{pick, asWord, applyOf, extendOf}
-use Rattle.word.specs.declared.Op.{Op}
 use Rattle.word.specs.declared.Op.the-variants.{Rsub, Sll, Sra, Mulh, Mulhsu, Mulhu, Div, Divu, Rem, Remu, Max, Maxu, Sle, Sgtu, Move}
 
 pub record Case : Type 0 where

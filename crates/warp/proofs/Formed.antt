@@ -19,20 +19,13 @@ use Rattle.warp.specs.declared.Warp.{Warp}
 use Rattle.warp.specs.Warp.{splitCount, maxThreads, maxWarps, zeroSplit, aligned, withPc, withRpc, withPrint, withStop, setX, writeX, nextPc, next}
 use Rattle.warp.specs.WellFormed.{fixedOkOf, chainOf, isZero, allZero, wellFormedOf}
 use Rattle.warp.specs.Splits.{openOf, lastSplit, turned, turnOf, closeOf, joinOf, setRpcOf}
-use Rattle.warp.specs.SplitLaws.{by-cond}
+use Rattle.warp.proofs.SplitLaws.{by-cond}
 use Rattle.warp.specs.Csr.{tidOf}
-use Rattle.warp.specs.Chain.{zero-step, chain-le}
-use Rattle.warp.specs.Moves.{Cuts, Held, held, opens, joins, fits, last-good}
+use Rattle.warp.proofs.Chain.{zero-step, chain-le}
+use Rattle.warp.proofs.Moves.{Cuts, Held, held, opens, joins, fits, last-good}
+use Rattle.warp.specs.Facts.{FixedOk, Formed}
 
 -- ---- the fixed values
-
-pub record FixedOk (f : Fixed) : Type 0 where
-  pub lanes : (1 ≤ f .numt) × (f .numt ≤ maxThreads)
-  pub warps : (1 ≤ f .numw) × (f .numw ≤ maxWarps)
-  pub wid : f .wid < f .numw
-  pub some : 0 < f .launchmask
-  pub mask : f .launchmask < 2 ^ f .numt
-  pub code : f .codebase % 4 ≡ 0
 
 ends : (low n high : ℕ) → between low n high ≡ true → (low ≤ n) × (n ≤ high)
 ends low n high e = let p = both (leb low n) (leb n high) e in (leb-true _ _ (p .0), leb-true _ _ (p .1))
@@ -59,17 +52,6 @@ pub tid-small : (f : Fixed) → FixedOk f → tidOf f ≤ maxWarps * maxThreads
 tid-small f k = mul-le-mul (le-of-lt (lt-of-lt-of-le (k .wid) (k .warps .1))) (k .lanes .1)
 
 -- ---- the test, part by part
-
-pub record Formed (w : Warp) : Type 0 where
-  pub long : length (w .splits) ≡ splitCount
-  pub fixed : fixedOkOf (w .fixed) ≡ true
-  pub pc : w .pc % 4 ≡ 0
-  pub x0 : getD (w .x) 0 0 ≡ 0
-  pub deep : w .depth ≤ splitCount
-  pub unused : allZero (drop (w .depth) (w .splits)) ≡ true
-  pub one : not (w .ended && w .waiting) ≡ true
-  pub chain : chainOf (w .fixed .launchmask) (w .splits) (w .depth) (w .mask) ≡ true
-  pub quiet : not ((w .ended || w .waiting) && ltb 0 (w .depth)) ≡ true
 
 abbrev tests : Warp → List Bool
 tests w =

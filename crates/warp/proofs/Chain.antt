@@ -15,9 +15,10 @@ use borrow.Author.Tests.{eq-eqb, ne-eqb, eqb-true, eqb-false, not-true}
 use Rattle.warp.specs.declared.Split.{Split}
 use Rattle.answer.proofs.Rows.{both, every-at}
 use Rattle.lanes.specs.Mask.{bitAt, inside}
-use Rattle.lanes.specs.MaskLaws.{cut-bit, cut-ones, ones-pos}
+use Rattle.lanes.proofs.MaskLaws.{cut-bit, cut-ones, ones-pos}
 use Rattle.warp.specs.Warp.{zeroSplit, aligned}
-use Rattle.warp.specs.WellFormed.{runningOf, parkedOf, splitOkOf, chainOf, isZero, allZero}
+use Rattle.warp.specs.WellFormed.{runningOf, splitOkOf, chainOf, isZero, allZero}
+use Rattle.warp.specs.Parked.{parkedIn}
 
 -- a field that is an array of structs is known by the list of its elements' parts
 pub mapped : {A B : Type 0} (f : A → B) (l : List A) (n : ℕ) → length (map f l) ≡ n → length l ≡ n
@@ -80,11 +81,6 @@ share l false e f h = omega (arith, cut-bit l e f h)
 share-ones : (b : Bool) (e f : ℕ) → bitAnd e f ≡ e → (e ≡ 0 → ⊥) → (e ≡ f → ⊥) → (ones (cond b e (f - e)) < ones f) × (0 < cond b e (f - e))
 share-ones true e f h z n = omega (arith, cut-ones f e h, ones-pos (f - e) (omega (arith, and-le-r e f)))
 share-ones false e f h z n = omega (arith, cut-ones f e h, ones-pos e (omega arith), and-le-r e f)
-
--- in how many of the first d splits lane l is parked
-unfoldable pub parkedIn : ℕ → List Split → ℕ → ℕ
-parkedIn l ss zero = 0
-parkedIn l ss (suc d) = bitAt l (parkedOf (getD ss d zeroSplit)) + parkedIn l ss d
 
 -- each launched lane is active or parked in just one of the d splits, and no other lane is either
 pub covered : (l a : ℕ) (ss : List Split) (d m : ℕ) → chainOf a ss d m ≡ true → bitAt l m + parkedIn l ss d ≡ bitAt l a

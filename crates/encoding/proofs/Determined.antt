@@ -4,7 +4,7 @@ use mathlib.Core.Path.{_≡_, sym, _∙_, ap}
 use Rattle.isa.specs.declared.Instr.the-variants.{Refused}
 use Rattle.isa.specs.Decode.{decodeOf}
 use Rattle.encoding.specs.Encode.{wordOf}
-use Rattle.encoding.specs.Back.{back}
+use Rattle.encoding.proofs.Back.{back}
 
 pub word-back : (w : ℕ) → (decodeOf w ≡ Refused → ⊥) → wordOf (decodeOf w) ≡ w
 word-back = back

@@ -20,8 +20,8 @@ use Rattle.isa.specs.Vector.{Formed, has, vectorTable, multiplyTable, vectorAs,
 use Rattle.isa.specs.Ventus.{vbranchAs, joinOf, joins, splitsOf, endPrgOf, barrierOf, stops, stopOf, vstores, accesses, vloadAs, vstoreAs, laneAccessOf, ploadAs, pstoreAs, privateOf}
 use Rattle.isa.specs.Decode.{opcodes, decodeOf}
 use Rattle.isa.specs.Fits.{fieldOf}
-use Rattle.isa.specs.Laws.{both, Rows, found, rows-append, every, rows-tested, fixed-at}
-use Rattle.isa.specs.Decoded.{Small, small}
+use Rattle.isa.proofs.Laws.{both, Rows, found, rows-append, every, rows-tested, fixed-at}
+use Rattle.isa.proofs.Decoded.{Small, small}
 use Rattle.encoding.specs.Encode.{condNumber, loadNumber, storeNumber, csrNumber, codeIn, firstOf, secondOf, opCodes, immCodes, vectorCodes, operandCode, wordFrom, typeR, typeI, typeS, typeB, typeU, typeJ, unmasked, wordOf}
 
 -- a word is its fields, one cut at a time

@@ -1,0 +1,29 @@
+-- The facts that the tests of a well-formed warp (WellFormed.antt) stand for, as contracts ask for them.
+use Prim.Native.Nat.{_%_, _^_, _≤_, _<_}
+use mathlib.Core.Path.{_≡_}
+use mathlib.Core.Bool.{true, not, _&&_, _||_}
+use lib.Dec.{ltb}
+use lib.ListN.{getD, drop, length}
+use Rattle.warp.specs.declared.Fixed.{Fixed}
+use Rattle.warp.specs.declared.Warp.{Warp}
+use Rattle.warp.specs.Warp.{splitCount, maxThreads, maxWarps}
+use Rattle.warp.specs.WellFormed.{fixedOkOf, chainOf, allZero}
+
+pub record FixedOk (f : Fixed) : Type 0 where
+  pub lanes : (1 ≤ f .numt) × (f .numt ≤ maxThreads)
+  pub warps : (1 ≤ f .numw) × (f .numw ≤ maxWarps)
+  pub wid : f .wid < f .numw
+  pub some : 0 < f .launchmask
+  pub mask : f .launchmask < 2 ^ f .numt
+  pub code : f .codebase % 4 ≡ 0
+
+pub record Formed (w : Warp) : Type 0 where
+  pub long : length (w .splits) ≡ splitCount
+  pub fixed : fixedOkOf (w .fixed) ≡ true
+  pub pc : w .pc % 4 ≡ 0
+  pub x0 : getD (w .x) 0 0 ≡ 0
+  pub deep : w .depth ≤ splitCount
+  pub unused : allZero (drop (w .depth) (w .splits)) ≡ true
+  pub one : not (w .ended && w .waiting) ≡ true
+  pub chain : chainOf (w .fixed .launchmask) (w .splits) (w .depth) (w .mask) ≡ true
+  pub quiet : not ((w .ended || w .waiting) && ltb 0 (w .depth)) ≡ true
