@@ -1,5 +1,5 @@
 #!/usr/bin/env python3
-"""Makes crates/decoder_cases/stdin (words) and crates/decoder_cases/stdout (what each is).
+"""Makes crates/test_decoder/stdin (words) and crates/test_decoder/stdout (what each is).
 
 Scalar and standard vector words are judged by GNU binutils' disassembly
 (riscv64-unknown-elf-objdump -M no-aliases,numeric). Ventus's own words, and

@@ -1,5 +1,5 @@
 #!/bin/sh
-# The last part of ./check: runs ./bench on every folder of examples/ and crates/bench_cases/data/ and compares what it prints with the folder's
+# The last part of ./check: runs ./bench on every folder of examples/ and crates/test_bench/data/ and compares what it prints with the folder's
 # expected.txt, then on wrong arguments.
 set -u
 cd "$(dirname "$0")/.." || exit 2
@@ -17,7 +17,7 @@ compare() {
     fi
 }
 
-for expected in examples/*/expected.txt crates/bench_cases/data/*/expected.txt; do
+for expected in examples/*/expected.txt crates/test_bench/data/*/expected.txt; do
     folder=$(dirname "$expected")
     compare "$folder" "$(./bench "$folder" 2>&1; echo "status $?")" "$(cat "$expected"; echo 'status 0')"
 done

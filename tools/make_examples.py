@@ -1,6 +1,6 @@
 #!/usr/bin/env python3
-"""Makes the example folders examples/NAME and the case folders crates/bench_cases/data/NAME, each with
-card.bin, kernel.bin, data.bin and expected.txt, and the stdout of crates/bench and crates/bench_cases.
+"""Makes the example folders examples/NAME and the case folders crates/test_bench/data/NAME, each with
+card.bin, kernel.bin, data.bin and expected.txt, and the stdout of crates/bench and crates/test_bench.
 
 The kernels are written as text and encoded by tools/case_files.py. The expected printout is made by the plain
 Rust reference, never by the bench program.
@@ -101,10 +101,10 @@ def printout(files, reference):
 def contents(reference):
     """the path of every file, and its content"""
     printed = {name: printout(files, reference) for name, files in CASES.items()}
-    # rt runs bench on the first example, and bench_cases on every case in the order above
-    made = {'crates/bench/stdout': printed['end'], 'crates/bench_cases/stdout': b''.join(printed.values())}
+    # rt runs bench on the first example, and test_bench on every case in the order above
+    made = {'crates/bench/stdout': printed['end'], 'crates/test_bench/stdout': b''.join(printed.values())}
     folders = {'crates/bench/data': EXAMPLES['end']}
-    for parent, cases in (('examples', EXAMPLES), ('crates/bench_cases/data', CASES)):
+    for parent, cases in (('examples', EXAMPLES), ('crates/test_bench/data', CASES)):
         folders |= {'%s/%s' % (parent, name): files for name, files in cases.items()}
         made |= {'%s/%s/expected.txt' % (parent, name): printed[name] for name in cases}
     for folder, files in folders.items():

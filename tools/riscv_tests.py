@@ -1,5 +1,5 @@
 #!/usr/bin/env python3
-"""Makes crates/cases/data/riscv_tests.bin: a kernel for each program of tools/riscv_tests.txt, which checks itself.
+"""Makes crates/test_cases/data/riscv_tests.bin: a kernel for each program of tools/riscv_tests.txt, which checks itself.
 
 Register x3 has the number of the test that runs; a wrong result ends the kernel with it, and 1 says that all passed.
 Before the file is written every kernel is run by QEMU as a Linux program, at the same addresses and with the same

@@ -1,5 +1,5 @@
 #!/usr/bin/env python3
-"""Makes crates/cases/data/vector_ops.bin: a kernel for each vector instruction of the table in each of its forms.
+"""Makes crates/test_cases/data/vector_ops.bin: a kernel for each vector instruction of the table in each of its forms.
 
 A kernel goes through rounds of operands in data memory: it loads them, does the instruction over 32 lanes and stores
 the result behind them. The expected data comes from QEMU, which runs the same instruction word over the same data in

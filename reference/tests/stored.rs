@@ -10,7 +10,7 @@ use std::process::Command;
 const FILES: [&str; 3] = ["generated.bin", "riscv_tests.bin", "vector_ops.bin"];
 
 fn stored(name: &str) -> PathBuf {
-    PathBuf::from(env!("CARGO_MANIFEST_DIR")).join("../crates/cases").join(name)
+    PathBuf::from(env!("CARGO_MANIFEST_DIR")).join("../crates/test_cases").join(name)
 }
 
 /// The cases of a file, which are written as they are read, whoever made it.

@@ -18,10 +18,8 @@ both false b e = let z : false ≡ true = e in (z, cc)
 -- each of the tests that all hold
 pub every-at : (ts : List Bool) → every ts ≡ true → (i : ℕ) → getD ts i true ≡ true
 every-at [] e i = refl
-every-at (t ∷ []) e zero = e
-every-at (t ∷ []) e (suc i) = refl
-every-at (t ∷ u ∷ ts) e zero = both t (every (u ∷ ts)) e .0
-every-at (t ∷ u ∷ ts) e (suc i) = every-at (u ∷ ts) (both t (every (u ∷ ts)) e .1) i
+every-at (t ∷ ts) e zero = both t (every ts) e .0
+every-at (t ∷ ts) e (suc i) = every-at ts (both t (every ts) e .1) i
 
 -- ---- lists of rows
 

@@ -20,8 +20,7 @@ first (t ∷ ts) = cond (t .is) (t .code) (first ts)
 -- every test of a list holds
 abbrev pub every : List Bool → Bool
 every [] = true
-every (t ∷ []) = t
-every (t ∷ u ∷ ts) = t && every (u ∷ ts)
+every (t ∷ ts) = t && every ts
 
 abbrev pub between : ℕ → ℕ → ℕ → Bool
 between low n high = leb low n && leb n high

@@ -14,20 +14,20 @@ use Rattle.warp.specs.declared.Launch.{Launch}
 use Rattle.warp.specs.declared.Warp.{Warp}
 use Rattle.warp.specs.Warp.{splitCount, zeroWarp, Answered, answered, withStop}
 use Rattle.warp.proofs.SplitLaws.{by-cond}
-use Rattle.running.specs.Words.{stateWords, scalarPart, splitPart, movingPart, fixedPart, warpOf, warpIn, soundIn}
-use Rattle.running.proofs.Words.{together-words, parts-whole, fixed-long, warp-words}
+use Rattle.layout.specs.Words.{stateWords, scalarPart, splitPart, movingPart, fixedPart, warpOf, warpIn, soundIn}
+use Rattle.layout.proofs.Words.{together-words, parts-whole, fixed-long, warp-words}
 use Rattle.definition.specs.State.{State, state, Outcome, outcome}
 use Rattle.definition.specs.Refuse.{runsOkOf, launchTests, releaseTests}
 use Rattle.definition.specs.Calls.{launchedOf, launchOf, Ran, ran, runOf, releaseOf}
 use Rattle.definition.proofs.Calls.{run-size, run-one}
-use Rattle.exec.specs.Steps.{Lists, lists, stateIn}
-use Rattle.machine.specs.Drives.{runWordsOf, RunsWords}
-use Rattle.machine.proofs.Runs.{run-sound}
+use Rattle.handlers.specs.Handles.{Lists, lists, lentState}
+use Rattle.drive.specs.Drives.{runWordsOf, RunsWords}
+use Rattle.drive.proofs.Runs.{run-sound}
 use Rattle.card.specs.declared.ReadCard.{ReadCard}
 use Rattle.card.specs.Card.{reading, readingOf, readCardOf}
 use Rattle.saved.specs.Saved.{Saving, saving, saveOf, restoreTests, restoreOf}
 use Rattle.saved.proofs.SaveLaws.{zero-words, save-size, save-done, warp-deep}
-use Rattle.capi.specs.Calls.{called, leaving, unless, blankOf, launchCallOf, stateTests, stepCallOf, RunCalled, runCalled, runCallOf, releaseCallOf}
+use Rattle.capi.specs.Calls.{called, leaving, unlessCalled, blankOf, launchCallOf, wordsTests, stepCallOf, RunCalled, runCalled, runCallOf, releaseCallOf}
 
 -- ---- states
 
@@ -75,7 +75,7 @@ module _ (s k : List ℕ) (n : ℕ) (v d : List ℕ) (l : length s ≡ stateWord
     is = runCalled (called c (putBack b) (b .vector) (b .bytes)) (t ∷ [])
 
     -- a warp's words are those of the warp that they stand for
-    as-warp : b .fixed ≡ fixedPart s → soundIn s ≡ true → is ≡ left (ran t (outcome c (stateIn b)))
+    as-warp : b .fixed ≡ fixedPart s → soundIn s ≡ true → is ≡ left (ran t (outcome c (lentState b)))
     as-warp eg o =
         ap (λ (u : List ℕ). runCalled (called c u (b .vector) (b .bytes)) (t ∷ []))
         (sym (together-words (b .fixed) (b .moving) (b .scalars) (b .splits) (ap length eg ∙ fixed-long s l) (q .long) (q .room) (q .sound o)))
@@ -83,7 +83,7 @@ module _ (s k : List ℕ) (n : ℕ) (v d : List ℕ) (l : length s ≡ stateWord
     other : soundIn s ≡ false → is ≡ runCalled (called (cond (runsOkOf (warpIn s .fixed) k v d) 2 1) s v d) (0 ∷ [])
     unfolding runWordsOf warpOf
     other o =
-        let e : ran t (outcome c (stateIn b)) ≡ ran 0 (outcome (cond (runsOkOf (warpIn s .fixed) k v d) 2 1) m) = q .runs ∙ rw o in
+        let e : ran t (outcome c (lentState b)) ≡ ran 0 (outcome (cond (runsOkOf (warpIn s .fixed) k v d) 2 1) m) = q .runs ∙ rw o in
         ap (λ (b : Lists). runCalled (called c (putBack b) (b .vector) (b .bytes)) (t ∷ [])) (q .kept o)
         ∙ ap (λ (u : List ℕ). runCalled (called c u v d) (t ∷ [])) (parts-whole s l)
         ∙ ap (λ (r : Ran). runCalled (called (r .ends .code) s v d) (r .steps ∷ [])) e
@@ -113,7 +113,7 @@ module _ (s k v d : List ℕ) where
   pub step-call : (c t : ℕ) (s' v' d' : List ℕ) → runCalled (called c s' v' d') (t ∷ []) ≡ runCallOf s k 1 v d (0 ∷ []) → called c s' v' d' ≡ stepCallOf s k v d
   unfolding stepCallOf runCallOf
   step-call c t s' v' d' e =
-      ap (λ (r : RunCalled). r .call) e ∙ ap (λ (o : Outcome). unless (first (stateTests s k v d)) o s v d) (run-one k (state (warpIn s) v d))
+      ap (λ (r : RunCalled). r .call) e ∙ ap (λ (o : Outcome). unlessCalled (first (wordsTests s k v d)) o s v d) (run-one k (state (warpIn s) v d))
 
 -- ---- run
 

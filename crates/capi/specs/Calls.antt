@@ -6,7 +6,7 @@ use lib.Dec.{eqb}
 use lib.ListN.{length, replicate}
 use Rattle.answer.specs.Rows.{Row, _⇒_, first}
 use Rattle.warp.specs.Warp.{Answered}
-use Rattle.running.specs.Words.{stateWords, wordsOf, warpIn, soundIn}
+use Rattle.layout.specs.Words.{stateWords, isState, wordsOf, warpIn, soundIn}
 use Rattle.definition.specs.State.{state, Outcome}
 use Rattle.definition.specs.Refuse.{runsOkOf}
 use Rattle.definition.specs.Step.{stepOf}
@@ -29,30 +29,30 @@ abbrev pub leaving : Outcome → Called
 leaving o = called (o .code) (wordsOf (o .left .warp)) (o .left .vector) (o .left .bytes)
 
 -- the refusal n, which leaves all as it was handed in; or, where n is 0, what the definition leaves
-abbrev pub unless : ℕ → Outcome → List ℕ → List ℕ → List ℕ → Called
-unless n o s v d = cond (eqb n 0) (leaving o) (called n s v d)
+abbrev pub unlessCalled : ℕ → Outcome → List ℕ → List ℕ → List ℕ → Called
+unlessCalled n o s v d = cond (eqb n 0) (leaving o) (called n s v d)
 
 -- ---- launch, from a card c
 
 -- a refused launch leaves a state of 207 words all zeros, and one of another length as it was
 abbrev pub blankOf : List ℕ → List ℕ
-blankOf s = cond (eqb (length s) stateWords) (replicate stateWords 0) s
+blankOf s = cond (isState s) (replicate stateWords 0) s
 
 unfoldable pub launchCallOf : List ℕ → List ℕ → List ℕ → List ℕ → List ℕ → Called
 launchCallOf c k v d s =
     let r : Reading = readCardOf c in
     let o : Outcome = launchOf k (r .launch) v d in
-    let n : ℕ = first (r .number ⇒ not (eqb (r .number) 0) ∷ 1 ⇒ not (eqb (length s) stateWords) ∷ o .code ⇒ not (eqb (o .code) 0) ∷ []) in
-    unless n o (blankOf s) v d
+    let n : ℕ = first (r .number ⇒ not (eqb (r .number) 0) ∷ 1 ⇒ not (isState s) ∷ o .code ⇒ not (eqb (o .code) 0) ∷ []) in
+    unlessCalled n o (blankOf s) v d
 
 -- ---- step and run
 
 -- refusals 1 and 2 of the state as words; the definition's own tests of the warp come after them
-abbrev pub stateTests : List ℕ → List ℕ → List ℕ → List ℕ → List (Row Bool)
-stateTests s k v d = 1 ⇒ not (eqb (length s) stateWords) ∷ 1 ⇒ not (runsOkOf (warpIn s .fixed) k v d) ∷ 2 ⇒ not (soundIn s) ∷ []
+abbrev pub wordsTests : List ℕ → List ℕ → List ℕ → List ℕ → List (Row Bool)
+wordsTests s k v d = 1 ⇒ not (isState s) ∷ 1 ⇒ not (runsOkOf (warpIn s .fixed) k v d) ∷ 2 ⇒ not (soundIn s) ∷ []
 
 unfoldable pub stepCallOf : List ℕ → List ℕ → List ℕ → List ℕ → Called
-stepCallOf s k v d = unless (first (stateTests s k v d)) (stepOf k (state (warpIn s) v d)) s v d
+stepCallOf s k v d = unlessCalled (first (wordsTests s k v d)) (stepOf k (state (warpIn s) v d)) s v d
 
 -- what a run leaves: also the run of one word for the count
 pub record RunCalled : Type 0 where
@@ -69,9 +69,9 @@ countIn n t = cond (eqb (length t) 1) (n ∷ []) t
 -- a count of 0 where a run was refused before its first step
 unfoldable pub runCallOf : List ℕ → List ℕ → ℕ → List ℕ → List ℕ → List ℕ → RunCalled
 runCallOf s k budget v d t =
-    let n : ℕ = first (1 ⇒ not (eqb (length t) 1) ∷ stateTests s k v d) in
+    let n : ℕ = first (1 ⇒ not (eqb (length t) 1) ∷ wordsTests s k v d) in
     let r : Ran = runOf k budget (state (warpIn s) v d) in
-    runCalled (unless n (r .ends) s v d) (countIn (cond (eqb n 0) (r .steps) 0) t)
+    runCalled (unlessCalled n (r .ends) s v d) (countIn (cond (eqb n 0) (r .steps) 0) t)
 
 -- ---- release, which lends no run but the state: refused as restoring it is
 

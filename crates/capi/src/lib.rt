@@ -1,16 +1,18 @@
 // The machine's calls for C and Rust, over numbers and slices: a warp is a state of 207 words.
-use machine::Drove;
-use running::FIXED;
-use running::FIXED_START;
-use running::FLAT;
-use running::MOVING;
-use running::MOVING_START;
-use running::SCALARS;
-use running::STATE_WORDS;
+use drive::Drove;
+use layout::FIXED;
+use layout::FIXED_START;
+use layout::FLAT;
+use layout::MOVING;
+use layout::MOVING_START;
+use layout::SCALARS;
+use layout::STATE_WORDS;
 ghost use mathlib.Core.Path.{_≡_};
 ghost use mathlib.Core.List.{[], _∷_};
+ghost use Prim.Native.Nat.{_<_};
 ghost use lib.ListN.{length};
-ghost use Rattle.running.specs.Words.{stateWords};
+ghost use Rattle.layout.specs.Words.{stateWords};
+ghost use Rattle.definition.specs.Calls.{budgetLimit};
 ghost use Rattle.saved.specs.Saved.{saving};
 ghost use Rattle.capi.specs.Calls.{called, blankOf, launchCallOf, stepCallOf, runCalled, runCallOf, releaseCallOf};
 
@@ -62,15 +64,15 @@ fn run_state(
     ensures { λ r. ⌜ runCalled (called (r .code) (now (state .exit)) (now (vector .exit)) (now (bytes .exit))) (r .steps ∷ []) ≡ runCallOf (now (state .entry)) (now (kernel .entry)) budget (now (vector .entry)) (now (bytes .entry)) (0 ∷ []) ⌝ }
 {
     let mut x = [0u32; SCALARS];
-    saved::copy(state, 0, &mut x, 0, SCALARS);
+    layout::copy(state, 0, &mut x, 0, SCALARS);
     let mut s = [0u32; FLAT];
-    saved::copy(state, SCALARS, &mut s, 0, FLAT);
+    layout::copy(state, SCALARS, &mut s, 0, FLAT);
     let mut h = [0u32; MOVING];
-    saved::copy(state, MOVING_START, &mut h, 0, MOVING);
+    layout::copy(state, MOVING_START, &mut h, 0, MOVING);
     let mut g = [0u32; FIXED];
-    saved::copy(state, FIXED_START, &mut g, 0, FIXED);
-    let end = machine::run_words(&mut h, &g, &mut x, &mut s, kernel, vector, bytes, budget);
-    saved::put(&h, &g, &x, &s, state);
+    layout::copy(state, FIXED_START, &mut g, 0, FIXED);
+    let end = drive::run_words(&mut h, &g, &mut x, &mut s, kernel, vector, bytes, budget);
+    layout::put(&h, &g, &x, &s, state);
     end
 }
 
@@ -99,7 +101,7 @@ pub extern "C" fn bench_run(
     budget: u32,
     steps: &mut [u32],
 ) -> u32
-    ensures { λ r. ⌜ runCalled (called r (now (state .exit)) (now (vector .exit)) (now (bytes .exit))) (now (steps .exit)) ≡ runCallOf (now (state .entry)) (now (kernel .entry)) budget (now (vector .entry)) (now (bytes .entry)) (now (steps .entry)) ⌝ }
+    ensures { λ r. ⌜ (budget < budgetLimit) × (runCalled (called r (now (state .exit)) (now (vector .exit)) (now (bytes .exit))) (now (steps .exit)) ≡ runCallOf (now (state .entry)) (now (kernel .entry)) budget (now (vector .entry)) (now (bytes .entry)) (now (steps .entry))) ⌝ }
 {
     if steps.len() != 1 {
         return answer::SIZE;
@@ -124,9 +126,9 @@ pub extern "C" fn bench_release(state: &mut [u32]) -> u32
         return code;
     }
     let w = read.warp;
-    let left = machine::release(w);
-    let b = left.answer;
-    let u = left.warp;
+    let freed = machine::release(w);
+    let c = freed.answer;
+    let u = freed.warp;
     saved::save(u, state);
-    answer::number(b)
+    answer::number(c)
 }

@@ -17,15 +17,15 @@ use Rattle.warp.specs.Warp.{Answered, answered}
 use Rattle.warp.specs.WellFormed.{launchOkOf, wellFormedOf}
 use Rattle.warp.proofs.Formed.{formed}
 use Rattle.warp.proofs.SplitLaws.{by-cond}
-use Rattle.running.specs.Words.{stateWords, wordsOf, warpIn, soundIn}
-use Rattle.running.proofs.Words.{warp-words, words-warp, words-sound, words-long}
+use Rattle.layout.specs.Words.{stateWords, wordsOf, warpIn, soundIn}
+use Rattle.layout.proofs.Words.{warp-words, words-warp, words-sound, words-long}
 use Rattle.definition.specs.State.{State, state, Outcome, outcome}
 use Rattle.definition.specs.Refuse.{runsOkOf, lastOfStep}
 use Rattle.definition.specs.Step.{stepOf}
 use Rattle.definition.specs.Calls.{launchOf, Ran, runOf, releaseOf}
 use Rattle.card.specs.Card.{cardSize, headOkAt, launchAt, readCardOf}
 use Rattle.saved.specs.Saved.{saving, restoreTests}
-use Rattle.capi.specs.Calls.{Called, called, leaving, unless, blankOf, launchCallOf, stateTests, stepCallOf, runCalled, countIn, runCallOf, releaseCallOf}
+use Rattle.capi.specs.Calls.{Called, called, leaving, unlessCalled, blankOf, launchCallOf, wordsTests, stepCallOf, runCalled, countIn, runCallOf, releaseCallOf}
 use Rattle.capi.proofs.Laws.{run-room}
 use Rattle.capi_words.specs.Words.{variant, decodeCallOf}
 use Rattle.promises.specs.Reached.{Reached, launched, goes, steps, releases, Sound}
@@ -34,22 +34,22 @@ use Rattle.promises.proofs.Determined.{determined-whole}
 use Rattle.promises.proofs.Refusals.{is-zero, step-answers, run-answers, step-keeps, release-refusals}
 use Rattle.promises.proofs.Reached.{reached-sound, never-malformed}
 use Rattle.promises.proofs.Runs.{run-iterates, run-tests, steps-fixed, run-reaches}
-use Rattle.capi_promises.specs.Calls.{oneOf, whole, LaunchCallAnswers, StepCallAnswers, RunCallAnswers, ReleaseCallAnswers, DecodeCallAnswers, LaunchCallKeeps, StepCallKeeps, RunCallKeeps, RunCallRoom, ReleaseCallKeeps, LaunchCallDetermined, StepCallDetermined, RunCallDetermined, ReleaseCallDetermined, DecodeCallDetermined, Holds, Leaves, LaunchCallReaches, StepCallReaches, RunCallReaches, ReleaseCallReaches}
+use Rattle.capi_promises.specs.Calls.{oneOf, whole, LaunchCallAnswers, StepCallAnswers, RunCallAnswers, ReleaseCallAnswers, DecodeCallAnswers, LaunchCallKeeps, StepCallKeeps, RunCallKeeps, RunCallRoom, ReleaseCallKeeps, LaunchCallDetermined, StepCallDetermined, RunCallDetermined, ReleaseCallDetermined, DecodeCallDetermined, Holds, CallLeaves, LaunchCallReaches, StepCallReaches, RunCallReaches, ReleaseCallReaches}
 
 -- ---- answers
 
 -- a call that its own tests refuse with n, or that the definition answers
-unless-at : (P : ℕ → Type 0) (n : ℕ) (o : Outcome) (s v d : List ℕ) → P n → P (o .code) → P (unless n o s v d .number)
+unless-at : (P : ℕ → Type 0) (n : ℕ) (o : Outcome) (s v d : List ℕ) → P n → P (o .code) → P (unlessCalled n o s v d .number)
 unless-at P n o s v d p q = by-cond (λ (r : Called). P (r .number)) (eqb n 0) (leaving o) (called n s v d) (λ e. q) (λ e. p)
 
 pub step-call-answers : StepCallAnswers
 unfolding stepCallOf
-step-call-answers s k v d = unless-at (λ (n : ℕ). n ≤ lastOfStep) (first (stateTests s k v d)) _ s v d (numbered-le 1 lastOfStep (stateTests s k v d) refl) (step-answers k _)
+step-call-answers s k v d = unless-at (λ (n : ℕ). n ≤ lastOfStep) (first (wordsTests s k v d)) _ s v d (numbered-le 1 lastOfStep (wordsTests s k v d) refl) (step-answers k _)
 
 pub run-call-answers : RunCallAnswers
 unfolding runCallOf
 run-call-answers s k n v d t =
-    let rows = 1 ⇒ not (eqb (length t) 1) ∷ stateTests s k v d in
+    let rows = 1 ⇒ not (eqb (length t) 1) ∷ wordsTests s k v d in
     unless-at (λ (c : ℕ). c ≤ lastOfStep) (first rows) _ s v d (numbered-le 1 lastOfStep rows refl) (run-answers k n _)
 
 pub launch-call-answers : LaunchCallAnswers
@@ -61,7 +61,7 @@ launch-call-answers c k v d s =
     go : (a b e x f g : Bool) (m : State) (s v d : List ℕ)
         → (let n : ℕ = first (13 ⇒ not a ∷ 13 ⇒ not b ∷ 1 ⇒ not e ∷ []) in
         let i : ℕ = first (1 ⇒ not f ∷ 1 ⇒ not g ∷ []) in
-        oneOf (0 ∷ 1 ∷ 13 ∷ []) (unless (first (n ⇒ not (eqb n 0) ∷ 1 ⇒ not x ∷ i ⇒ not (eqb i 0) ∷ [])) (outcome i m) s v d .number))
+        oneOf (0 ∷ 1 ∷ 13 ∷ []) (unlessCalled (first (n ⇒ not (eqb n 0) ∷ 1 ⇒ not x ∷ i ⇒ not (eqb i 0) ∷ [])) (outcome i m) s v d .number))
         ≡ true
     go false b e x f g m s v d = refl
     go true false e x f g m s v d = refl
@@ -95,7 +95,7 @@ decode-call-answers w = by-cond (λ (n : ℕ). oneOf (0 ∷ 6 ∷ []) n ≡ true
 back : (s : List ℕ) → eqb (length s) stateWords ≡ true → soundIn s ≡ true → wordsOf (warpIn s) ≡ s
 back s l o = warp-words s (eqb-true _ _ l) o
 
-tested-back : (s k v d : List ℕ) → first (stateTests s k v d) ≡ 0 → wordsOf (warpIn s) ≡ s
+tested-back : (s k v d : List ℕ) → first (wordsTests s k v d) ≡ 0 → wordsOf (warpIn s) ≡ s
 tested-back s k v d z =
     let a = eqb (length s) stateWords in
     let b = runsOkOf (warpIn s .fixed) k v d in
@@ -103,11 +103,11 @@ tested-back s k v d z =
 
 -- what the definition refuses leaves the words as they were; so a refused call does
 refusal : (n : ℕ) (o : Outcome) (s v d : List ℕ) → (n ≡ 0 → (o .code ≡ 0 → ⊥) → leaving o ≡ called (o .code) s v d)
-    → (unless n o s v d .number ≡ 0 → ⊥) → unless n o s v d ≡ called (unless n o s v d .number) s v d
+    → (unlessCalled n o s v d .number ≡ 0 → ⊥) → unlessCalled n o s v d ≡ called (unlessCalled n o s v d .number) s v d
 refusal n o s v d h = is-zero n (λ z. rw z (h z)) (λ z. rw (ne-eqb n 0 z) (λ y. refl))
 
 -- the state as it was handed in
-as-lent : (s k v d : List ℕ) (o : Outcome) → first (stateTests s k v d) ≡ 0 → o .left ≡ state (warpIn s) v d → leaving o ≡ called (o .code) s v d
+as-lent : (s k v d : List ℕ) (o : Outcome) → first (wordsTests s k v d) ≡ 0 → o .left ≡ state (warpIn s) v d → leaving o ≡ called (o .code) s v d
 as-lent s k v d o z h =
     ap (λ (m : State). leaving (outcome (o .code) m)) h ∙ ap (λ (u : List ℕ). called (o .code) u v d) (tested-back s k v d z)
 
@@ -115,7 +115,7 @@ pub step-call-keeps : StepCallKeeps
 unfolding stepCallOf
 step-call-keeps s k v d =
     let m : State = state (warpIn s) v d in
-    refusal (first (stateTests s k v d)) (stepOf k m) s v d (λ z y. as-lent s k v d (stepOf k m) z (ap (λ (o : Outcome). o .left) (step-keeps k m y)))
+    refusal (first (wordsTests s k v d)) (stepOf k m) s v d (λ z y. as-lent s k v d (stepOf k m) z (ap (λ (o : Outcome). o .left) (step-keeps k m y)))
 
 -- a run of no steps leaves its state
 still : (k : List ℕ) (n : ℕ) (m : State) → runOf k n m .steps ≡ 0 → runOf k n m .ends .left ≡ m
@@ -132,10 +132,10 @@ unfolding runCallOf
 run-call-keeps s k n v d t y e =
     let m : State = state (warpIn s) v d in
     let one = eqb (length t) 1 in
-    let rows = 1 ⇒ not one ∷ stateTests s k v d in
+    let rows = 1 ⇒ not one ∷ wordsTests s k v d in
     refusal (first rows) (runOf k n m .ends) s v d
     (λ z y.
-    let p : one ≡ true = passed [] (stateTests s k v d) 1 one refl z in
+    let p : one ≡ true = passed [] (wordsTests s k v d) 1 one refl z in
     as-lent s k v d (runOf k n m .ends) (rw p at z) (still k n m (counted (first rows) (runOf k n m .steps) t z (eqb-true _ _ p) e)))
     y
 
@@ -190,7 +190,7 @@ decode-call-determined = determined-whole whole decodeCallOf (λ r t e. e)
 -- ---- from reached state to reached state
 
 -- where a launch is answered 0, its own tests refuse nothing
-accepted : (n : ℕ) (o : Outcome) (s v d : List ℕ) → unless n o s v d .number ≡ 0 → unless n o s v d ≡ leaving o
+accepted : (n : ℕ) (o : Outcome) (s v d : List ℕ) → unlessCalled n o s v d .number ≡ 0 → unlessCalled n o s v d ≡ leaving o
 accepted n o s v d = is-zero n (λ z. rw z (λ y. refl)) (λ z. rw (ne-eqb n 0 z) (λ y. absurd (z y)))
 
 -- an outcome answered 0
@@ -203,7 +203,7 @@ launch-call-reaches c k v d s z =
     let o : Outcome = launchOf k (readCardOf c .launch) v d in
     let n : ℕ = readCardOf c .number in
     let e = accepted (first (n ⇒ not (eqb n 0) ∷ 1 ⇒ not (eqb (length s) stateWords) ∷ o .code ⇒ not (eqb (o .code) 0) ∷ [])) o (blankOf s) v d z in
-    subst (Leaves k (readCardOf c .launch)) (sym e)
+    subst (CallLeaves k (readCardOf c .launch)) (sym e)
     (record { warp = o .left .warp; words = refl; reached = launched v d (done o (sym (ap (λ (r : Called). r .number) e) ∙ z)) })
 
 module _ (k : List ℕ) (l : Launch) (s v d : List ℕ) (h : Holds k l s v d) where
@@ -229,7 +229,7 @@ module _ (k : List ℕ) (l : Launch) (s v d : List ℕ) (h : Holds k l s v d) wh
   fits = ap (λ (u : Warp). runsOkOf (u .fixed) k v d) stands ∙ sound .runs
 
   -- what is left of a reached state is reached
-  left : (o : Outcome) → Reached k l (o .left) → Leaves k l (leaving o)
+  left : (o : Outcome) → Reached k l (o .left) → CallLeaves k l (leaving o)
   left o r = record { warp = o .left .warp; words = refl; reached = r }
 
   step-is : stepCallOf s k v d ≡ leaving (stepOf k m)

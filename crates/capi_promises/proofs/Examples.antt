@@ -5,12 +5,12 @@ use mathlib.Core.List.{List, [], _∷_}
 use lib.ListN.{replicate}
 use Rattle.lanes.specs.Lanes.{fileWords}
 use Rattle.warp.specs.WellFormed.{fixedOkOf}
-use Rattle.running.specs.Words.{stateWords}
+use Rattle.layout.specs.Words.{stateWords}
 use Rattle.definition.specs.Refuse.{runsOkOf}
 use Rattle.definition.specs.Calls.{launchOf}
 use Rattle.card.specs.Card.{headOkAt, launchAt, readCardOf}
 use Rattle.capi.specs.Calls.{Called, launchCallOf}
-use Rattle.capi_promises.specs.Calls.{Leaves}
+use Rattle.capi_promises.specs.Calls.{CallLeaves}
 use Rattle.capi_promises.proofs.Calls.{launch-call-reaches}
 
 -- length 48, version 1, NUMT 4, NUMW 1, WID 0; the mask; code base, data base and entry PC; KNL to GIDZ
@@ -28,5 +28,5 @@ taken : call .number ≡ 0
 unfolding launchCallOf readCardOf headOkAt launchAt launchOf runsOkOf fixedOkOf
 taken = refl
 
-held : Leaves kernel (readCardOf card .launch) call
+held : CallLeaves kernel (readCardOf card .launch) call
 held = launch-call-reaches card kernel (replicate fileWords 0) [] (replicate stateWords 0) taken

@@ -7,7 +7,7 @@ use lib.Dec.{eqb}
 use lib.ListN.{length}
 use Rattle.warp.specs.declared.Launch.{Launch}
 use Rattle.warp.specs.declared.Warp.{Warp}
-use Rattle.running.specs.Words.{wordsOf}
+use Rattle.layout.specs.Words.{wordsOf}
 use Rattle.definition.specs.State.{State, state}
 use Rattle.definition.specs.Refuse.{lastOfStep}
 use Rattle.definition.specs.Step.{stepOf}
@@ -95,17 +95,17 @@ pub record Holds (k : List ℕ) (l : Launch) (s v d : List ℕ) : Type 0 where
   pub reached : Reached k l (state warp v d)
 
 -- what a call leaves holds a reached state
-abbrev pub Leaves : List ℕ → Launch → Called → Type 0
-Leaves k l r = Holds k l (r .state) (r .vector) (r .bytes)
+abbrev pub CallLeaves : List ℕ → Launch → Called → Type 0
+CallLeaves k l r = Holds k l (r .state) (r .vector) (r .bytes)
 
 -- A launch answered 0 leaves the words of a reached state.
 abbrev pub LaunchCallReaches : Type 0
-LaunchCallReaches = (c k v d s : List ℕ) → launchCallOf c k v d s .number ≡ 0 → Leaves k (readCardOf c .launch) (launchCallOf c k v d s)
+LaunchCallReaches = (c k v d s : List ℕ) → launchCallOf c k v d s .number ≡ 0 → CallLeaves k (readCardOf c .launch) (launchCallOf c k v d s)
 
 -- A step on the words of a reached state is the definition's step, leaves the words of a reached state, refused or not, and is never refused with 1 or 2.
 pub record StepOn (k : List ℕ) (l : Launch) (m : State) (r : Called) : Type 0 where
   pub is : r ≡ leaving (stepOf k m)
-  pub leaves : Leaves k l r
+  pub leaves : CallLeaves k l r
   pub not1 : r .number ≡ 1 → ⊥
   pub not2 : r .number ≡ 2 → ⊥
 
@@ -115,7 +115,7 @@ StepCallReaches = (k : List ℕ) (l : Launch) (s v d : List ℕ) (h : Holds k l 
 -- So is a run, its count the definition's, where the count has its word.
 pub record RunOn (k : List ℕ) (l : Launch) (n : ℕ) (m : State) (r : RunCalled) : Type 0 where
   pub is : r ≡ runCalled (leaving (runOf k n m .ends)) (runOf k n m .steps ∷ [])
-  pub leaves : Leaves k l (r .call)
+  pub leaves : CallLeaves k l (r .call)
   pub not1 : r .call .number ≡ 1 → ⊥
   pub not2 : r .call .number ≡ 2 → ⊥
 

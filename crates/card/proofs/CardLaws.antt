@@ -44,12 +44,12 @@ module _ (d : List ℕ) where
       read-done o = simp (eq-eqb _ _ s, h, o)
 
 -- what an accepted reading says
-pub record Accepted (d : List ℕ) : Type 0 where
+pub record Readable (d : List ℕ) : Type 0 where
   pub size : length d ≡ cardSize
   pub head : headOkAt d ≡ true
   pub range : launchOkOf (launchAt d) ≡ true
 
-pub accepted : (d : List ℕ) → readCardOf d .number ≡ 0 → Accepted d
+pub accepted : (d : List ℕ) → readCardOf d .number ≡ 0 → Readable d
 accepted d e =
     let z : first (readTests d) ≡ 0 = sym (read-number d) ∙ e in
     let total : Row Bool = 13 ⇒ not (eqb (length d) cardSize) in

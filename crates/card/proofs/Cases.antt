@@ -17,9 +17,9 @@ example =
             numt = 4;
             numw = 1;
             wid = 0;
-            launchmask = 0xf;
-            codebase = 0x80000000;
-            database = 0x90000000;
+            launchMask = 0xf;
+            codeBase = 0x80000000;
+            dataBase = 0x90000000;
             knl = 1;
             wgid = 2;
             lds = 3;
@@ -50,13 +50,13 @@ card =
 pub size : cardSize ≡ 50
 size = refl
 
-pub read : readCardOf card ≡ reading 0 example
+pub card-read : readCardOf card ≡ reading 0 example
 unfolding readCardOf headOkAt launchAt fixedOkOf
-read = refl
+card-read = refl
 
-pub written : writeCardOf example (replicate 50 0xff) ≡ writing 0 card
+pub card-written : writeCardOf example (replicate 50 0xff) ≡ writing 0 card
 unfolding writeCardOf cardOf beBytes fixedOkOf
-written = refl
+card-written = refl
 
 -- ---- refused readings: each a card but for one thing
 

@@ -8,8 +8,8 @@ use lib.ListN.{length, drop, set, length-append, drop-of-length-le}
 use lib.Seq.{sets, sets-eq}
 use Rattle.card.specs.BigEndian.{beAt, beBytes}
 use Rattle.card.proofs.BigEndianLaws.{Bytes, length-be, bytes-at, at-bytes}
-use Rattle.card.specs.Layout.{Values, end, _▹_, sizeOf, valuesAt, bytesOf}
-use Rattle.card.specs.Puts.{puts}
+use Rattle.card.specs.Layout.{Values, end, _▹_, totalOf, valuesAt, bytesOf}
+use Rattle.card.specs.Puts.{putsAll}
 
 -- P holds of each width and its value
 abbrev pub Each : (ℕ → ℕ → Type 0) → {ws : List ℕ} → Values ws → Type 0
@@ -17,21 +17,21 @@ Each P end = record {}
 Each P (_▹_ {w} x xs) = P w x × Each P xs
 
 -- each value fits its bytes
-abbrev pub Fits : {ws : List ℕ} → Values ws → Type 0
-Fits xs = Each (λ w x. x < 256 ^ w) xs
+abbrev pub InPlace : {ws : List ℕ} → Values ws → Type 0
+InPlace xs = Each (λ w x. x < 256 ^ w) xs
 
-pub length-bytes : {ws : List ℕ} (xs : Values ws) → length (bytesOf xs) ≡ sizeOf ws
-length-bytes end = refl
-length-bytes (_▹_ {w} x xs) = length-append (beBytes w x) (bytesOf xs) ∙ ap₂ _+_ (length-be w x) (length-bytes xs)
+pub card-length : {ws : List ℕ} (xs : Values ws) → length (bytesOf xs) ≡ totalOf ws
+card-length end = refl
+card-length (_▹_ {w} x xs) = length-append (beBytes w x) (bytesOf xs) ∙ ap₂ _+_ (length-be w x) (card-length xs)
 
 -- writing what is read
-pub bytes-values : (d : List ℕ) → Bytes d → (ws : List ℕ) (i : ℕ) → i + sizeOf ws ≡ length d → bytesOf (valuesAt ws d i) ≡ drop i d
+pub bytes-values : (d : List ℕ) → Bytes d → (ws : List ℕ) (i : ℕ) → i + totalOf ws ≡ length d → bytesOf (valuesAt ws d i) ≡ drop i d
 bytes-values d h [] i e = sym (drop-of-length-le d {i = i} (omega arith))
 bytes-values d h (w ∷ ws) i e =
     ap (λ (r : List ℕ). beBytes w (beAt w d i) ++ r) (bytes-values d h ws (i + w) (omega arith)) ∙ bytes-at d h w i (omega arith)
 
 -- reading what is written
-pub values-bytes : {ws : List ℕ} (xs : Values ws) → Fits xs → (p : List ℕ) → valuesAt ws (p ++ bytesOf xs) (length p) ≡ xs
+pub values-bytes : {ws : List ℕ} (xs : Values ws) → InPlace xs → (p : List ℕ) → valuesAt ws (p ++ bytesOf xs) (length p) ≡ xs
 values-bytes end f p = refl
 values-bytes (_▹_ {w} {ws} x xs) f p =
     ap₂ (λ (y : ℕ) (ys : Values ws). _▹_ {w = w} y ys) (at-bytes w x p (bytesOf xs) (f .0))
@@ -45,7 +45,7 @@ sets-append [] t i ys = ap (λ (k : ℕ). sets t k ys) (add-zero i)
 sets-append (x ∷ xs) t i ys =
     ap (λ (k : ℕ). sets (sets (set t i x) (suc i) xs) k ys) (add-suc i (length xs) ∙ sym (suc-add i (length xs))) ∙ sets-append xs (set t i x) (suc i) ys
 
-puts-sets : {ws : List ℕ} (xs : Values ws) (i : ℕ) (t : List ℕ) → puts xs i t ≡ sets t i (bytesOf xs)
+puts-sets : {ws : List ℕ} (xs : Values ws) (i : ℕ) (t : List ℕ) → putsAll xs i t ≡ sets t i (bytesOf xs)
 puts-sets end i t = refl
 puts-sets (_▹_ {w} x xs) i t =
     puts-sets xs (i + w) (sets t i (beBytes w x))
@@ -53,7 +53,7 @@ puts-sets (_▹_ {w} x xs) i t =
     ∙ sets-append (beBytes w x) t i (bytesOf xs)
 
 -- a target of just their size then holds their bytes
-pub puts-all : {ws : List ℕ} (xs : Values ws) (t : List ℕ) → length t ≡ sizeOf ws → puts xs 0 t ≡ bytesOf xs
+pub puts-all : {ws : List ℕ} (xs : Values ws) (t : List ℕ) → length t ≡ totalOf ws → putsAll xs 0 t ≡ bytesOf xs
 puts-all {ws} xs t e =
-    puts-sets xs 0 t ∙ sets-eq (bytesOf xs) t 0 (let z = length-bytes xs in omega arith)
-    ∙ ap (λ (r : List ℕ). bytesOf xs ++ r) (drop-of-length-le t {i = 0 + length (bytesOf xs)} (let z = length-bytes xs in omega arith)) ∙ append-nil (bytesOf xs)
+    puts-sets xs 0 t ∙ sets-eq (bytesOf xs) t 0 (let z = card-length xs in omega arith)
+    ∙ ap (λ (r : List ℕ). bytesOf xs ++ r) (drop-of-length-le t {i = 0 + length (bytesOf xs)} (let z = card-length xs in omega arith)) ∙ append-nil (bytesOf xs)

@@ -15,45 +15,45 @@ use Rattle.warp.specs.Facts.{FixedOk}
 use Rattle.warp.proofs.Formed.{fixed-ok}
 use Rattle.card.proofs.BigEndianLaws.{Bytes}
 use Rattle.card.specs.Layout.{Values, end, _▹_, valuesAt, bytesOf}
-use Rattle.card.proofs.LayoutLaws.{Each, Fits, length-bytes, bytes-values, values-bytes}
-use Rattle.card.specs.Card.{layout, cardSize, cardLength, cardVersion, valuesOf, launchOf, headOk, headOkAt, launchAt, cardOf, Reading, reading, readCardOf, Writing, writing, writeCardOf}
+use Rattle.card.proofs.LayoutLaws.{Each, InPlace, card-length, bytes-values, values-bytes}
+use Rattle.card.specs.Card.{layout, cardSize, cardLength, cardVersion, valuesOf, launchFrom, headOk, headOkAt, launchAt, cardOf, Reading, reading, readCardOf, Writing, writing, writeCardOf}
 use Rattle.card.proofs.CardLaws.{read-done, write-done, accepted}
 
 -- the launch's values are 32-bit words
-abbrev pub Words : Launch → Type 0
-Words l = Each (λ w x. x < 2 ^ 32) (valuesOf l)
+abbrev pub CardWords : Launch → Type 0
+CardWords l = Each (λ w x. x < 2 ^ 32) (valuesOf l)
 
 -- ---- writing, then reading
 
 pub length-card : (l : Launch) → length (cardOf l) ≡ cardSize
 unfolding cardOf
-length-card l = length-bytes (valuesOf l)
+length-card l = card-length (valuesOf l)
 
 -- an accepted launch's NUMT, NUMW and WID fit a byte
-fits : (l : Launch) → launchOkOf l ≡ true → Words l → Fits (valuesOf l)
+fits : (l : Launch) → launchOkOf l ≡ true → CardWords l → InPlace (valuesOf l)
 fits l ok h =
     let k : FixedOk (l .fixed) = fixed-ok (l .fixed) (both (fixedOkOf (l .fixed)) (aligned (l .entry)) ok .0) in
     (omega arith, (omega arith, (omega arith, (omega arith, (omega arith, h .1 .1 .1 .1 .1)))))
 
-values-card : (l : Launch) → launchOkOf l ≡ true → Words l → valuesAt layout (cardOf l) 0 ≡ valuesOf l
+values-card : (l : Launch) → launchOkOf l ≡ true → CardWords l → valuesAt layout (cardOf l) 0 ≡ valuesOf l
 unfolding cardOf
 values-card l ok h = values-bytes (valuesOf l) (fits l ok h) []
 
-read-card : (l : Launch) → launchOkOf l ≡ true → Words l → readCardOf (cardOf l) ≡ reading 0 l
+read-card : (l : Launch) → launchOkOf l ≡ true → CardWords l → readCardOf (cardOf l) ≡ reading 0 l
 unfolding headOkAt launchAt
 read-card l ok h =
-    let e : launchAt (cardOf l) ≡ l = ap launchOf (values-card l ok h) in
+    let e : launchAt (cardOf l) ≡ l = ap launchFrom (values-card l ok h) in
     sym (read-done (cardOf l) (length-card l) (ap headOk (values-card l ok h)) (ap launchOkOf e ∙ ok)) ∙ ap (reading 0) e
 
 -- WRITING AN ACCEPTED LAUNCH AND READING IT BACK GIVES THE SAME LAUNCH.
-pub read-written : (l : Launch) (t : List ℕ) → launchOkOf l ≡ true → Words l → length t ≡ cardSize → readCardOf (writeCardOf l t .target) ≡ reading 0 l
+pub read-written : (l : Launch) (t : List ℕ) → launchOkOf l ≡ true → CardWords l → length t ≡ cardSize → readCardOf (writeCardOf l t .target) ≡ reading 0 l
 read-written l t ok h s = ap (λ (w : Writing). readCardOf (w .target)) (sym (write-done l t s ok)) ∙ read-card l ok h
 
 -- ---- reading, then writing
 
 -- the fields of a card whose head is as it must be are those of its launch
-values-launch : (v : Values layout) → headOk v ≡ true → valuesOf (launchOf v) ≡ v
-values-launch (len ▹ version ▹ numt ▹ numw ▹ wid ▹ mask ▹ codebase ▹ database ▹ entry ▹ knl ▹ wgid ▹ lds ▹ pds ▹ gidx ▹ gidy ▹ gidz ▹ end) ok =
+values-launch : (v : Values layout) → headOk v ≡ true → valuesOf (launchFrom v) ≡ v
+values-launch (len ▹ version ▹ numt ▹ numw ▹ wid ▹ mask ▹ codeBase ▹ dataBase ▹ entry ▹ knl ▹ wgid ▹ lds ▹ pds ▹ gidx ▹ gidy ▹ gidz ▹ end) ok =
     let p = both (eqb len cardLength) (eqb version cardVersion) ok in
     let e : len ≡ cardLength = eqb-true len cardLength (p .0) in
     let f : version ≡ cardVersion = eqb-true version cardVersion (p .1) in

@@ -10,14 +10,14 @@ use Rattle.warp.specs.declared.Launch.{Launch}
 use Rattle.warp.specs.Warp.{zeroLaunch}
 use Rattle.warp.specs.WellFormed.{launchOkOf}
 use Rattle.card.specs.declared.ReadCard.{ReadCard}
-use Rattle.card.specs.Layout.{Values, end, _▹_, sizeOf, valuesAt, bytesOf}
+use Rattle.card.specs.Layout.{Values, end, _▹_, totalOf, valuesAt, bytesOf}
 
 -- 2 bytes length; version, NUMT, NUMW, WID, one byte each; then eleven 32-bit words
 abbrev pub layout : List ℕ
 layout = 2 ∷ 1 ∷ 1 ∷ 1 ∷ 1 ∷ replicate 11 4
 
 abbrev pub cardSize : ℕ
-cardSize = sizeOf layout
+cardSize = totalOf layout
 
 -- the length field, counting what follows
 abbrev pub cardLength : ℕ
@@ -32,21 +32,21 @@ abbrev pub valuesOf : Launch → Values layout
 valuesOf l =
     let f = l .fixed in
     cardLength ▹ cardVersion ▹ f .numt ▹ f .numw ▹ f .wid
-    ▹ f .launchmask ▹ f .codebase ▹ f .database ▹ l .entry ▹ f .knl ▹ f .wgid ▹ f .lds ▹ f .pds ▹ f .gidx ▹ f .gidy ▹ f .gidz ▹ end
+    ▹ f .launchMask ▹ f .codeBase ▹ f .dataBase ▹ l .entry ▹ f .knl ▹ f .wgid ▹ f .lds ▹ f .pds ▹ f .gidx ▹ f .gidy ▹ f .gidz ▹ end
 
-abbrev pub launchOf : Values layout → Launch
-launchOf
+abbrev pub launchFrom : Values layout → Launch
+launchFrom
     (len ▹ version ▹ numt ▹ numw ▹ wid
-    ▹ mask ▹ codebase ▹ database ▹ entry ▹ knl ▹ wgid ▹ lds ▹ pds ▹ gidx ▹ gidy ▹ gidz ▹ end) =
+    ▹ mask ▹ codeBase ▹ dataBase ▹ entry ▹ knl ▹ wgid ▹ lds ▹ pds ▹ gidx ▹ gidy ▹ gidz ▹ end) =
     record {
       fixed =
           record {
             numt = numt;
             numw = numw;
             wid = wid;
-            launchmask = mask;
-            codebase = codebase;
-            database = database;
+            launchMask = mask;
+            codeBase = codeBase;
+            dataBase = dataBase;
             knl = knl;
             wgid = wgid;
             lds = lds;
@@ -68,7 +68,7 @@ unfoldable pub headOkAt : List ℕ → Bool
 headOkAt d = headOk (valuesAt layout d 0)
 
 unfoldable pub launchAt : List ℕ → Launch
-launchAt d = launchOf (valuesAt layout d 0)
+launchAt d = launchFrom (valuesAt layout d 0)
 
 unfoldable pub cardOf : Launch → List ℕ
 cardOf l = bytesOf (valuesOf l)

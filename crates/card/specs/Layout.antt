@@ -10,9 +10,9 @@ pub data Values : List ℕ → Type 0 where
   _▹_ : {w : ℕ} {ws : List ℕ} → ℕ → Values ws → Values (w ∷ ws)
 
 -- how many bytes a layout has
-abbrev pub sizeOf : List ℕ → ℕ
-sizeOf [] = 0
-sizeOf (w ∷ ws) = w + sizeOf ws
+abbrev pub totalOf : List ℕ → ℕ
+totalOf [] = 0
+totalOf (w ∷ ws) = w + totalOf ws
 
 -- reading: the values in the bytes d from index i on
 abbrev pub valuesAt : (ws : List ℕ) → List ℕ → ℕ → Values ws

@@ -7,9 +7,9 @@ use Rattle.card.specs.BigEndian.{beBytes}
 use Rattle.card.specs.Layout.{Values, end, _▹_}
 
 -- the target t after the values are put into it, from index i on
-abbrev pub puts : {ws : List ℕ} → Values ws → ℕ → List ℕ → List ℕ
-puts end i t = t
-puts (_▹_ {w} x xs) i t = puts xs (i + w) (sets t i (beBytes w x))
+abbrev pub putsAll : {ws : List ℕ} → Values ws → ℕ → List ℕ → List ℕ
+putsAll end i t = t
+putsAll (_▹_ {w} x xs) i t = putsAll xs (i + w) (sets t i (beBytes w x))
 
 -- the values after the first n
 abbrev pub later : {ws : List ℕ} (n : ℕ) → Values ws → Values (drop n ws)

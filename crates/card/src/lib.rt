@@ -11,7 +11,7 @@ ghost use Rattle.answer.specs.declared.Answer.the-variants.{Refused};
 ghost use Rattle.answer.specs.Answer.{numberOf};
 ghost use Rattle.warp.specs.Warp.{zeroLaunch};
 ghost use Rattle.card.specs.BigEndian.{beAt, beBytes};
-ghost use Rattle.card.specs.Puts.{puts, later};
+ghost use Rattle.card.specs.Puts.{putsAll, later};
 ghost use Rattle.card.specs.Card.{valuesOf, cardSize, headOkAt, launchAt, readingOf, readCardOf, writing, writeCardOf};
 
 const CARD_SIZE: usize = 50;
@@ -73,9 +73,9 @@ fn launch_at(b: &[u8]) -> Launch
         numt: byte_at(b, 3),
         numw: byte_at(b, 4),
         wid: byte_at(b, 5),
-        launchmask: word_at(b, 6),
-        codebase: word_at(b, 10),
-        database: word_at(b, 14),
+        launchMask: word_at(b, 6),
+        codeBase: word_at(b, 10),
+        dataBase: word_at(b, 14),
         knl: word_at(b, 22),
         wgid: word_at(b, 26),
         lds: word_at(b, 30),
@@ -148,7 +148,7 @@ fn put_word(t: &mut [u8], at: usize, x: u32)
 // Length to entry PC; what is left to put is KNL to GIDZ.
 fn put_first(l: Launch, t: &mut [u8])
     requires { ⌜ length (now t) ≡ cardSize ⌝ }
-    ensures { λ _. ⌜ puts (later 9 (valuesOf l)) 22 (now (t .exit)) ≡ puts (valuesOf l) 0 (now (t .entry)) ⌝ }
+    ensures { λ _. ⌜ putsAll (later 9 (valuesOf l)) 22 (now (t .exit)) ≡ putsAll (valuesOf l) 0 (now (t .entry)) ⌝ }
 {
     let f = l.fixed;
     put_half(t, 0, CARD_LENGTH);
@@ -156,16 +156,16 @@ fn put_first(l: Launch, t: &mut [u8])
     put_byte(t, 3, f.numt);
     put_byte(t, 4, f.numw);
     put_byte(t, 5, f.wid);
-    put_word(t, 6, f.launchmask);
-    put_word(t, 10, f.codebase);
-    put_word(t, 14, f.database);
+    put_word(t, 6, f.launchMask);
+    put_word(t, 10, f.codeBase);
+    put_word(t, 14, f.dataBase);
     put_word(t, 18, l.entry);
 }
 
 // KNL to GIDZ.
 fn put_later(l: Launch, t: &mut [u8])
     requires { ⌜ length (now t) ≡ cardSize ⌝ }
-    ensures { λ _. ⌜ now (t .exit) ≡ puts (later 9 (valuesOf l)) 22 (now (t .entry)) ⌝ }
+    ensures { λ _. ⌜ now (t .exit) ≡ putsAll (later 9 (valuesOf l)) 22 (now (t .entry)) ⌝ }
 {
     let f = l.fixed;
     put_word(t, 22, f.knl);

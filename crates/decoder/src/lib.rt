@@ -8,8 +8,8 @@ ghost use Rattle.answer.specs.Rows.{_⇒_};
 ghost use Rattle.isa.specs.declared.Instr.the-variants.{Refused};
 ghost use Rattle.isa.specs.Fields.{fieldsOf};
 ghost use Rattle.isa.specs.Table.{seek, fixed as fixedTo};
-ghost use Rattle.isa.specs.Scalar.{jalrOf, branchOf, loadOf, storeOf, leftShifts, rightShifts, shiftOf, opImmOf, opOf, fenceOf, csrOf};
-ghost use Rattle.isa.specs.Ventus.{joinOf, splitsOf, endPrgOf, barrierOf, stopOf, laneAccessOf, privateOf};
+ghost use Rattle.isa.specs.Scalar.{jalrWord, branchWord, loadWord, storeWord, leftShifts, rightShifts, shiftWord, opImmWord, opWord, fenceWord, csrWord};
+ghost use Rattle.isa.specs.Ventus.{joinWord, splitsWord, endPrgWord, barrierWord, stopWord, laneAccessWord, privateWord};
 ghost use Rattle.isa.specs.Decode.{decodeOf};
 ghost use Rattle.isa.specs.Kinds.{instrOf};
 use isa::kinds;
@@ -22,14 +22,14 @@ fn fixed(field: u32, value: u32, kind: u32) -> u32
 }
 
 fn jalr(w: u32) -> u32
-    ensures { λ r. ⌜ instrOf r w ≡ jalrOf (fieldsOf w) ⌝ }
+    ensures { λ r. ⌜ instrOf r w ≡ jalrWord (fieldsOf w) ⌝ }
 {
     let funct3 = w / 4096 % 8;
     fixed(funct3, 0b000, kinds::JALR)
 }
 
 fn branch(w: u32) -> u32
-    ensures { λ r. ⌜ instrOf r w ≡ branchOf (fieldsOf w) ⌝ }
+    ensures { λ r. ⌜ instrOf r w ≡ branchWord (fieldsOf w) ⌝ }
 {
     let funct3 = w / 4096 % 8;
     match funct3 {
@@ -39,7 +39,7 @@ fn branch(w: u32) -> u32
 }
 
 fn load(w: u32) -> u32
-    ensures { λ r. ⌜ instrOf r w ≡ loadOf (fieldsOf w) ⌝ }
+    ensures { λ r. ⌜ instrOf r w ≡ loadWord (fieldsOf w) ⌝ }
 {
     let funct3 = w / 4096 % 8;
     match funct3 {
@@ -49,7 +49,7 @@ fn load(w: u32) -> u32
 }
 
 fn store(w: u32) -> u32
-    ensures { λ r. ⌜ instrOf r w ≡ storeOf (fieldsOf w) ⌝ }
+    ensures { λ r. ⌜ instrOf r w ≡ storeWord (fieldsOf w) ⌝ }
 {
     let funct3 = w / 4096 % 8;
     match funct3 {
@@ -59,14 +59,14 @@ fn store(w: u32) -> u32
 }
 
 fn left_shift(w: u32) -> u32
-    ensures { λ r. ⌜ instrOf r w ≡ shiftOf leftShifts (fieldsOf w) ⌝ }
+    ensures { λ r. ⌜ instrOf r w ≡ shiftWord leftShifts (fieldsOf w) ⌝ }
 {
     let funct7 = w / 33554432;
     fixed(funct7, 0b0000000, kinds::SLLI)
 }
 
 fn right_shift(w: u32) -> u32
-    ensures { λ r. ⌜ instrOf r w ≡ shiftOf rightShifts (fieldsOf w) ⌝ }
+    ensures { λ r. ⌜ instrOf r w ≡ shiftWord rightShifts (fieldsOf w) ⌝ }
 {
     let funct7 = w / 33554432;
     match funct7 {
@@ -77,7 +77,7 @@ fn right_shift(w: u32) -> u32
 }
 
 fn op_imm(w: u32) -> u32
-    ensures { λ r. ⌜ instrOf r w ≡ opImmOf (fieldsOf w) ⌝ }
+    ensures { λ r. ⌜ instrOf r w ≡ opImmWord (fieldsOf w) ⌝ }
 {
     let funct3 = w / 4096 % 8;
     match funct3 {
@@ -105,7 +105,7 @@ fn by_funct7(funct7: u32, base: u32, multiply: u32, alternate: u32) -> u32
 }
 
 fn op(w: u32) -> u32
-    ensures { λ r. ⌜ instrOf r w ≡ opOf (fieldsOf w) ⌝ }
+    ensures { λ r. ⌜ instrOf r w ≡ opWord (fieldsOf w) ⌝ }
 {
     let funct3 = w / 4096 % 8;
     let funct7 = w / 33554432;
@@ -123,14 +123,14 @@ fn op(w: u32) -> u32
 }
 
 fn fence(w: u32) -> u32
-    ensures { λ r. ⌜ instrOf r w ≡ fenceOf (fieldsOf w) ⌝ }
+    ensures { λ r. ⌜ instrOf r w ≡ fenceWord (fieldsOf w) ⌝ }
 {
     let funct3 = w / 4096 % 8;
     fixed(funct3, 0b000, kinds::FENCE)
 }
 
 fn csr(w: u32) -> u32
-    ensures { λ r. ⌜ instrOf r w ≡ csrOf (fieldsOf w) ⌝ }
+    ensures { λ r. ⌜ instrOf r w ≡ csrWord (fieldsOf w) ⌝ }
 {
     let funct3 = w / 4096 % 8;
     match funct3 {
@@ -140,14 +140,14 @@ fn csr(w: u32) -> u32
 }
 
 fn join(w: u32) -> u32
-    ensures { λ r. ⌜ instrOf r w ≡ joinOf (fieldsOf w) ⌝ }
+    ensures { λ r. ⌜ instrOf r w ≡ joinWord (fieldsOf w) ⌝ }
 {
     let rest = w / 33554432 + w / 1048576 % 32 + w / 32768 % 32 + w / 128 % 32;
     fixed(rest, 0, kinds::JOIN)
 }
 
 fn splits(w: u32) -> u32
-    ensures { λ r. ⌜ instrOf r w ≡ splitsOf (fieldsOf w) ⌝ }
+    ensures { λ r. ⌜ instrOf r w ≡ splitsWord (fieldsOf w) ⌝ }
 {
     let funct3 = w / 4096 % 8;
     match funct3 {
@@ -159,21 +159,21 @@ fn splits(w: u32) -> u32
 }
 
 fn end_prg(w: u32) -> u32
-    ensures { λ r. ⌜ instrOf r w ≡ endPrgOf (fieldsOf w) ⌝ }
+    ensures { λ r. ⌜ instrOf r w ≡ endPrgWord (fieldsOf w) ⌝ }
 {
     let rest = w / 1048576 % 32 + w / 32768 % 32 + w / 128 % 32;
     fixed(rest, 0, kinds::ENDPRG)
 }
 
 fn barrier(w: u32) -> u32
-    ensures { λ r. ⌜ instrOf r w ≡ barrierOf (fieldsOf w) ⌝ }
+    ensures { λ r. ⌜ instrOf r w ≡ barrierWord (fieldsOf w) ⌝ }
 {
     let rest = w / 1048576 % 32 + w / 128 % 32;
     fixed(rest, 0, kinds::BARRIER)
 }
 
 fn stop(w: u32) -> u32
-    ensures { λ r. ⌜ instrOf r w ≡ stopOf (fieldsOf w) ⌝ }
+    ensures { λ r. ⌜ instrOf r w ≡ stopWord (fieldsOf w) ⌝ }
 {
     let funct3 = w / 4096 % 8;
     let funct7 = w / 33554432;
@@ -188,7 +188,7 @@ fn stop(w: u32) -> u32
 }
 
 fn lane_access(w: u32) -> u32
-    ensures { λ r. ⌜ instrOf r w ≡ laneAccessOf (fieldsOf w) ⌝ }
+    ensures { λ r. ⌜ instrOf r w ≡ laneAccessWord (fieldsOf w) ⌝ }
 {
     let funct3 = w / 4096 % 8;
     match funct3 {
@@ -200,7 +200,7 @@ fn lane_access(w: u32) -> u32
 
 // Bit 31 is zero.
 fn private(w: u32) -> u32
-    ensures { λ r. ⌜ instrOf r w ≡ privateOf (fieldsOf w) ⌝ }
+    ensures { λ r. ⌜ instrOf r w ≡ privateWord (fieldsOf w) ⌝ }
 {
     let funct3 = w / 4096 % 8;
     if w / 33554432 / 64 != 0 {

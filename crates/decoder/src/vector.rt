@@ -4,14 +4,14 @@ ghost use Prim.Native.Nat.{ℕ};
 ghost use Rattle.isa.specs.declared.Instr.the-variants.{Refused};
 ghost use Rattle.isa.specs.Fields.{fieldsOf};
 ghost use Rattle.isa.specs.Table.{seek};
-ghost use Rattle.isa.specs.Vector.{vectorTable, multiplyTable, plainOf, multiplyOf, fromV, fromX, fromI, operandsOf, vectorOf};
-ghost use Rattle.isa.specs.Kinds.{vectorWord, instrOf};
+ghost use Rattle.isa.specs.Vector.{vectorTable, multiplyTable, plainWord, multiplyWord, fromV, fromX, fromI, operandsWord, vectorWord};
+ghost use Rattle.isa.specs.Kinds.{laneOpWord, instrOf};
 use crate::fixed;
 use isa::kinds;
 
 // The table's row, whatever forms it has.
 fn row(funct6: u32) -> u32
-    ensures { λ r. ⌜ ((w : ℕ) → instrOf r w ≡ seek (λ f. vectorWord (f .op) (fieldsOf w)) Refused funct6 vectorTable) ⌝ }
+    ensures { λ r. ⌜ ((w : ℕ) → instrOf r w ≡ seek (λ f. laneOpWord (f .op) (fieldsOf w)) Refused funct6 vectorTable) ⌝ }
 {
     match funct6 {
         0b000000 => kinds::VADD,
@@ -41,7 +41,7 @@ fn row(funct6: u32) -> u32
 
 // The M group's row.
 fn multiply_row(funct6: u32) -> u32
-    ensures { λ r. ⌜ ((w : ℕ) → instrOf r w ≡ seek (λ f. vectorWord (f .op) (fieldsOf w)) Refused funct6 multiplyTable) ⌝ }
+    ensures { λ r. ⌜ ((w : ℕ) → instrOf r w ≡ seek (λ f. laneOpWord (f .op) (fieldsOf w)) Refused funct6 multiplyTable) ⌝ }
 {
     match funct6 {
         0b100100 => kinds::VMULHU,
@@ -59,7 +59,7 @@ fn multiply_row(funct6: u32) -> u32
 // No VV form: 000011, 011110 and 011111.
 fn plain_vv(w: u32) -> u32
     requires { ⌜ fieldsOf w .funct3 ≡ 0b000 ⌝ }
-    ensures { λ r. ⌜ instrOf r w ≡ plainOf (fromV (fieldsOf w)) (fieldsOf w) ⌝ }
+    ensures { λ r. ⌜ instrOf r w ≡ plainWord (fromV (fieldsOf w)) (fieldsOf w) ⌝ }
 {
     let funct6 = w / 33554432 / 2;
     match funct6 {
@@ -73,7 +73,7 @@ fn plain_vv(w: u32) -> u32
 // Every row of the table has the form VX.
 fn plain_vx(w: u32) -> u32
     requires { ⌜ fieldsOf w .funct3 ≡ 0b100 ⌝ }
-    ensures { λ r. ⌜ instrOf r w ≡ plainOf (fromX (fieldsOf w)) (fieldsOf w) ⌝ }
+    ensures { λ r. ⌜ instrOf r w ≡ plainWord (fromX (fieldsOf w)) (fieldsOf w) ⌝ }
 {
     let funct6 = w / 33554432 / 2;
     match funct6 {
@@ -85,7 +85,7 @@ fn plain_vx(w: u32) -> u32
 // No VI form: 000010, 000100 to 000111, 011010 and 011011.
 fn plain_vi(w: u32) -> u32
     requires { ⌜ fieldsOf w .funct3 ≡ 0b011 ⌝ }
-    ensures { λ r. ⌜ instrOf r w ≡ plainOf (fromI (fieldsOf w)) (fieldsOf w) ⌝ }
+    ensures { λ r. ⌜ instrOf r w ≡ plainWord (fromI (fieldsOf w)) (fieldsOf w) ⌝ }
 {
     let funct6 = w / 33554432 / 2;
     match funct6 {
@@ -98,7 +98,7 @@ fn plain_vi(w: u32) -> u32
 
 fn multiply_vv(w: u32) -> u32
     requires { ⌜ fieldsOf w .funct3 ≡ 0b010 ⌝ }
-    ensures { λ r. ⌜ instrOf r w ≡ multiplyOf (fromV (fieldsOf w)) (fieldsOf w) ⌝ }
+    ensures { λ r. ⌜ instrOf r w ≡ multiplyWord (fromV (fieldsOf w)) (fieldsOf w) ⌝ }
 {
     let funct6 = w / 33554432 / 2;
     match funct6 {
@@ -114,7 +114,7 @@ fn multiply_vv(w: u32) -> u32
 
 fn multiply_vx(w: u32) -> u32
     requires { ⌜ fieldsOf w .funct3 ≡ 0b110 ⌝ }
-    ensures { λ r. ⌜ instrOf r w ≡ multiplyOf (fromX (fieldsOf w)) (fieldsOf w) ⌝ }
+    ensures { λ r. ⌜ instrOf r w ≡ multiplyWord (fromX (fieldsOf w)) (fieldsOf w) ⌝ }
 {
     let funct6 = w / 33554432 / 2;
     match funct6 {
@@ -124,7 +124,7 @@ fn multiply_vx(w: u32) -> u32
 }
 
 fn operands(w: u32) -> u32
-    ensures { λ r. ⌜ instrOf r w ≡ operandsOf (fieldsOf w) ⌝ }
+    ensures { λ r. ⌜ instrOf r w ≡ operandsWord (fieldsOf w) ⌝ }
 {
     let funct3 = w / 4096 % 8;
     match funct3 {
@@ -139,7 +139,7 @@ fn operands(w: u32) -> u32
 
 // vm is 1.
 pub fn vector(w: u32) -> u32
-    ensures { λ r. ⌜ instrOf r w ≡ vectorOf (fieldsOf w) ⌝ }
+    ensures { λ r. ⌜ instrOf r w ≡ vectorWord (fieldsOf w) ⌝ }
 {
     let vm = w / 33554432 % 2;
     match vm {

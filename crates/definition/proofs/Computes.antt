@@ -15,10 +15,10 @@ use Rattle.definition.specs.Exec.{effectOf}
 use Rattle.definition.specs.Step.{stepOf}
 use Rattle.definition.specs.Calls.{launchOf, stepsOf, runOf, releaseOf}
 
-unfoldable pub words : Type 0
-unfolding decodeOf Scalar.jalrOf Scalar.branchOf Scalar.loadOf Scalar.storeOf Scalar.shiftOf Scalar.opImmOf Scalar.byFunct3 Scalar.opOf Scalar.fenceOf Scalar.csrOf Vector.plainOf Vector.multiplyOf Vector.operandsOf Vector.vectorOf Ventus.joinOf Ventus.splitsOf Ventus.endPrgOf Ventus.barrierOf Ventus.stopOf Ventus.laneAccessOf Ventus.privateOf
-words = Unit {0}
+unfoldable pub computed-words : Type 0
+unfolding decodeOf Scalar.jalrWord Scalar.branchWord Scalar.loadWord Scalar.storeWord Scalar.shiftWord Scalar.opImmWord Scalar.byFunct3 Scalar.opWord Scalar.fenceWord Scalar.csrWord Vector.plainWord Vector.multiplyWord Vector.operandsWord Vector.vectorWord Ventus.joinWord Ventus.splitsWord Ventus.endPrgWord Ventus.barrierWord Ventus.stopWord Ventus.laneAccessWord Ventus.privateWord
+computed-words = Unit {0}
 
 unfoldable pub computes : Type 0
-unfolding words bitAt eachLane allLanes leBytes zeroWarp fixedOkOf splitOkOf chainOf allZero wellFormedOf openOf parted joinOf setRpcOf csrAt csrDone runsOkOf refusalsOf effectOf stepOf launchOf stepsOf runOf releaseOf
+unfolding computed-words bitAt eachLane allLanes leBytes zeroWarp fixedOkOf splitOkOf chainOf allZero wellFormedOf openOf parted joinOf setRpcOf csrAt csrDone runsOkOf refusalsOf effectOf stepOf launchOf stepsOf runOf releaseOf
 computes = Unit {0}

@@ -10,6 +10,7 @@ use Rattle.answer.proofs.Rows.{passed}
 use Rattle.isa.specs.declared.Instr.{Instr}
 use Rattle.isa.specs.declared.Instr.the-variants as I
 use Rattle.memory.specs.Memory.{widthOf, insideOf, indexIn}
+use Rattle.lanes.specs.declared.Lane.{Lane}
 use Rattle.memory.specs.LaneAccess.{allInside}
 use Rattle.memory.proofs.Access.{inside-true, all-inside-at}
 use Rattle.definition.specs.State.{State, fixedOf, active, memoryOf, scalarAt, laneAt, instrAt}
@@ -23,19 +24,19 @@ Lies m nothing = Unit {0}
 Lies m (scalar r) = Unit {0}
 Lies m (split j) = Unit {0}
 Lies m (lanes on r) = Unit {0}
-Lies m (bytes n on width place) = (l : ℕ) → l < n → on l ≡ true → place l + width ≤ length (m .bytes)
+Lies m (bytes n on width place) = (l : Lane) → l .0 < n → on l ≡ true → place l + width ≤ length (m .bytes)
 
 module _ (m : State) where
   abbrev fits : ℕ → ℕ → Bool
   fits w a = insideOf (memoryOf m) w a
 
-  abbrev allFit : ℕ → (ℕ → ℕ) → Bool
+  abbrev allFit : ℕ → (Lane → ℕ) → Bool
   allFit w at = allInside (fixedOf m .numt) (active m) (memoryOf m) w at
 
   one : (w a : ℕ) → fits w a ≡ true → indexIn (memoryOf m) a + w ≤ length (m .bytes)
   one w a t = omega (arith, inside-true (memoryOf m) w a t)
 
-  each : (w : ℕ) (at : ℕ → ℕ) → allFit w at ≡ true → (l : ℕ) → l < fixedOf m .numt → active m l ≡ true → indexIn (memoryOf m) (at l) + w ≤ length (m .bytes)
+  each : (w : ℕ) (at : Lane → ℕ) → allFit w at ≡ true → (l : Lane) → l .0 < fixedOf m .numt → active m l ≡ true → indexIn (memoryOf m) (at l) + w ≤ length (m .bytes)
   each w at e l b t = one w (at l) (all-inside-at (fixedOf m .numt) (active m) (memoryOf m) w at (sym e) l b t)
 
   pub lies : (i : Instr) → first (refusalsOf i m) ≡ 0 → Lies m (targetOf i m)

@@ -17,14 +17,14 @@ use Rattle.definition.specs.Refuse.{kernelLimit, runsOkOf}
 module _ (f : Fixed) (k v d : List ℕ) where
   pub record Sizes : Type 0 where
     pub file-is : length v ≡ fileWords
-    pub data-ok : MemoryOk (memory (f .database) d)
-    pub code-ok : f .codebase + 4 * length k ≤ 2 ^ 32
+    pub data-ok : MemoryOk (memory (f .dataBase) d)
+    pub code-ok : f .codeBase + 4 * length k ≤ 2 ^ 32
 
   pub sizes : runsOkOf f k v d ≡ true → Sizes
   unfolding runsOkOf
   sizes e =
-      let p = every-at (between 1 (length k) kernelLimit ∷ leb (f .codebase + 4 * length k) (2 ^ 32) ∷ eqb (length v) fileWords ∷ memoryOkOf (memory (f .database) d) ∷ []) e in
-      record { file-is = eqb-true _ _ (p 2); data-ok = memory-ok (memory (f .database) d) (p 3); code-ok = leb-true _ _ (p 1) }
+      let p = every-at (between 1 (length k) kernelLimit ∷ leb (f .codeBase + 4 * length k) (2 ^ 32) ∷ eqb (length v) fileWords ∷ memoryOkOf (memory (f .dataBase) d) ∷ []) e in
+      record { file-is = eqb-true _ _ (p 2); data-ok = memory-ok (memory (f .dataBase) d) (p 3); code-ok = leb-true _ _ (p 1) }
 
   -- the lengths alone decide
   pub sizes-kept : (u e : List ℕ) → length u ≡ length v → length e ≡ length d → runsOkOf f k u e ≡ runsOkOf f k v d

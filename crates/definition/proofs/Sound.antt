@@ -31,49 +31,49 @@ use Rattle.definition.specs.Exec.{effect, effectOf}
 use Rattle.definition.specs.Step.{stepOf}
 
 -- from the warp w to the warp u
-pub record Sound (w u : Warp) : Type 0 where
+pub record StepSound (w u : Warp) : Type 0 where
   pub formed : Formed u
   pub moves : Moves w u
 
 module _ (w : Warp) (f : Formed w) where
   -- the splits and the mask are as they were
-  plain : (u : Warp) → Formed u → u .splits ≡ w .splits → u .depth ≡ w .depth → u .mask ≡ w .mask → u .fixed ≡ w .fixed → Sound w u
+  plain : (u : Warp) → Formed u → u .splits ≡ w .splits → u .depth ≡ w .depth → u .mask ≡ w .mask → u .fixed ≡ w .fixed → StepSound w u
   plain u g s d m x = record { formed = g; moves = leaves (record { splits = s; depth = d; mask = m; fixed = x }) }
 
-  on : Sound w (next w)
+  on : StepSound w (next w)
   on = plain _ (formed-next w f) refl refl refl refl
 
-  put : (r : XReg) (y : ℕ) → Sound w (next (writeX r y w))
+  put : (r : XReg) (y : ℕ) → StepSound w (next (writeX r y w))
   put r y = plain _ (formed-next _ (formed-x w f r y)) refl refl refl refl
 
-  link : (r : XReg) (p : ℕ) → first (8 ⇒ astray p ∷ []) ≡ 0 → Sound w (linked r p w)
+  link : (r : XReg) (p : ℕ) → first (8 ⇒ astray p ∷ []) ≡ 0 → StepSound w (linked r p w)
   link r p h = plain _ (formed-pc _ (formed-x w f r (nextPc w)) p (eqb-true _ _ (passed [] [] 8 (aligned p) refl h))) refl refl refl refl
 
-  branch : (t : Bool) (p : ℕ) → first (8 ⇒ (t && astray p) ∷ []) ≡ 0 → Sound w (branched t p w)
+  branch : (t : Bool) (p : ℕ) → first (8 ⇒ (t && astray p) ∷ []) ≡ 0 → StepSound w (branched t p w)
   branch true p h = plain _ (formed-pc w f p (eqb-true _ _ (passed [] [] 8 (aligned p) refl h))) refl refl refl refl
   branch false p h = on
 
-  csr : (o : CsrOp) (n : ℕ) (rd : XReg) (rs1 y : ℕ) → Sound w (csrDone o n rd rs1 y w)
+  csr : (o : CsrOp) (n : ℕ) (rd : XReg) (rs1 y : ℕ) → StepSound w (csrDone o n rd rs1 y w)
   unfolding csrDone
   csr o n rd rs1 y =
-      by-cond (λ u. Sound w (next (writeX rd (csrAt n w) u))) (writesOf o rs1) _ _
-      (λ e. by-cond (λ u. Sound w (next (writeX rd (csrAt n w) u))) (isPrint n) _ _
+      by-cond (λ u. StepSound w (next (writeX rd (csrAt n w) u))) (writesOf o rs1) _ _
+      (λ e. by-cond (λ u. StepSound w (next (writeX rd (csrAt n w) u))) (isPrint n) _ _
       (λ p. plain _ (formed-next _ (formed-x _ (formed-print w f _) rd _)) refl refl refl refl)
       (λ p. plain _ (formed-next _ (formed-x _ (formed-rpc w f _) rd _)) refl refl refl refl))
       (λ e. put rd _)
 
-  setrpc : (r a : XReg) (n : ℕ) → Sound w (setRpcOf r a n w)
+  setrpc : (r a : XReg) (n : ℕ) → StepSound w (setRpcOf r a n w)
   unfolding setRpcOf
   setrpc r a n = plain _ (formed-setrpc r a n w f) refl refl refl refl
 
 module _ (w : Warp) (f : Formed w) (en : w .ended ≡ false) (wa : w .waiting ≡ false) where
-  vbranch : (e p : ℕ) → bitAnd e (w .mask) ≡ e → first (8 ⇒ (not (eqb e 0) && astray p) ∷ []) ≡ 0 → Sound w (parted e p w)
+  vbranch : (e p : ℕ) → bitAnd e (w .mask) ≡ e → first (8 ⇒ (not (eqb e 0) && astray p) ∷ []) ≡ 0 → StepSound w (parted e p w)
   unfolding parted
-  vbranch e p i h = by-cond (Sound w) (eqb e 0) _ _ (λ z. on w f) (λ z. some z (eqb-true _ _ (passed [] [] 8 (aligned p) refl (rw z at h))))
+  vbranch e p i h = by-cond (StepSound w) (eqb e 0) _ _ (λ z. on w f) (λ z. some z (eqb-true _ _ (passed [] [] 8 (aligned p) refl (rw z at h))))
     where
-      some : eqb e 0 ≡ false → p % 4 ≡ 0 → Sound w (cond (eqb e (w .mask)) (withPc p w) (openOf e p w))
+      some : eqb e 0 ≡ false → p % 4 ≡ 0 → StepSound w (cond (eqb e (w .mask)) (withPc p w) (openOf e p w))
       some z a =
-          by-cond (Sound w) (eqb e (w .mask)) _ _ (λ m. plain w f _ (formed-pc w f p a) refl refl refl refl)
+          by-cond (StepSound w) (eqb e (w .mask)) _ _ (λ m. plain w f _ (formed-pc w f p a) refl refl refl refl)
           (λ m. let c : Cuts e p w = record { within = i; some = eqb-false _ _ z; strict = eqb-false _ _ m; aligned = a } in
           record { formed = formed-open w f en wa e p c; moves = opens e p c refl })
 
@@ -81,7 +81,7 @@ module _ (m : State) (f : Formed (m .warp)) (en : m .warp .ended ≡ false) (wa 
   abbrev W : Warp
   W = m .warp
 
-  pub sound : (i : Instr) → first (refusalsOf i m) ≡ 0 → Sound (m .warp) (effect (effectOf i m) m .warp)
+  pub sound : (i : Instr) → first (refusalsOf i m) ≡ 0 → StepSound (m .warp) (effect (effectOf i m) m .warp)
   unfolding effectOf refusalsOf
   sound I.Refused h = absurd (omega arith)
   sound (I.Lui r n) h = put W f r _
@@ -136,7 +136,7 @@ module _ (k : List ℕ) (m : State) (z : stepOf k m .code ≡ 0) where
   step-taken = rw (eq-eqb _ _ z)
 
   -- A taken step moves the splits as the three kinds of move do, and keeps the warp well formed.
-  pub step-sound : length (m .warp .splits) ≡ splitCount → Sound (m .warp) (stepOf k m .left .warp)
+  pub step-sound : length (m .warp .splits) ≡ splitCount → StepSound (m .warp) (stepOf k m .left .warp)
   step-sound n =
       let c = step-clear in
       rw step-taken (sound m (formed (m .warp) n (c .formed)) (c .ended) (c .waiting) (instrAt k m) (c .rest))

@@ -11,6 +11,7 @@ use Rattle.isa.specs.declared.Space.{Space}
 use Rattle.isa.specs.declared.StoreOp.{StoreOp}
 use Rattle.isa.specs.declared.XReg.{XReg}
 use Rattle.isa.specs.declared.VReg.{VReg}
+use Rattle.lanes.specs.declared.Lane.{Lane}
 use Rattle.lanes.specs.Lanes.{laneOf}
 use Rattle.memory.specs.Bytes.{leBytes}
 use Rattle.memory.specs.Memory.{widthOf, insideOf, indexIn}
@@ -33,15 +34,15 @@ module _ (m : State) where
     scalar-stored = store-at k (scalarAt x n m) (xOf y m) (memoryOf m) (inside-true (memoryOf m) (widthOf k) (scalarAt x n m) scalar-inside .1)
 
   module _ (s : Space) (k : StoreOp) (x y : VReg) (n : ℕ) (h : first (refusalsOf (I.VStore s k x y n) m) ≡ 0) where
-    abbrev at : ℕ → ℕ
+    abbrev at : Lane → ℕ
     at = laneAt s x n m
 
     pub lanes-inside : allInside (fixedOf m .numt) (active m) (memoryOf m) (widthOf k) at ≡ true
     unfolding refusalsOf
     lanes-inside = passed [] [] 9 (allInside (fixedOf m .numt) (active m) (memoryOf m) (widthOf k) at) refl h
 
-    pub lane-stored : (l : ℕ) → l < fixedOf m .numt → active m l ≡ true → (j : ℕ) → j < widthOf k
-        → ((i : ℕ) → l < i → i < fixedOf m .numt → active m i ≡ true → at i ≤ at l + j → at l + j < at i + widthOf k → ⊥)
+    pub lane-stored : (l : Lane) → l .0 < fixedOf m .numt → active m l ≡ true → (j : ℕ) → j < widthOf k
+        → ((i : Lane) → l .0 < i .0 → i .0 < fixedOf m .numt → active m i ≡ true → at i ≤ at l + j → at l + j < at i + widthOf k → ⊥)
         → getD (effect (effectOf (I.VStore s k x y n) m) m .bytes) (indexIn (memoryOf m) (at l) + j) 0 ≡ getD (leBytes (widthOf k) (laneOf (m .vector) y l)) j 0
     unfolding effectOf
     lane-stored = lanes-highest (fixedOf m .numt) (active m) k at (laneOf (m .vector) y) (memoryOf m) (sym lanes-inside)

@@ -16,6 +16,8 @@ use Rattle.isa.specs.declared.StoreOp.{StoreOp}
 use Rattle.isa.specs.declared.StoreOp.the-variants as S
 use Rattle.isa.specs.declared.XReg.{XReg}
 use Rattle.isa.specs.declared.VReg.{VReg}
+use Rattle.lanes.specs.declared.Lane.{Lane}
+use Rattle.lanes.specs.Mask.{lane}
 use Rattle.lanes.specs.Lanes.{lanesMax, slotOf}
 use Rattle.lanes.proofs.Laws.{write-length, write-other}
 use Rattle.memory.specs.Memory.{widthOf, indexIn, storeOf}
@@ -37,8 +39,8 @@ pub data Target : Type 0 where
   nothing : Target
   scalar : XReg → Target
   split : ℕ → Target
-  lanes : (ℕ → Bool) → VReg → Target
-  bytes : ℕ → (ℕ → Bool) → ℕ → (ℕ → ℕ) → Target
+  lanes : (Lane → Bool) → VReg → Target
+  bytes : ℕ → (Lane → Bool) → ℕ → (Lane → ℕ) → Target
 
 unfoldable pub targetOf : Instr → State → Target
 targetOf I.Refused m = nothing
@@ -83,14 +85,14 @@ SparesSplit (lanes on r) i = Unit {0}
 SparesSplit (bytes n on width place) i = Unit {0}
 
 abbrev pub SparesWord : State → Target → ℕ → Type 0
-SparesWord m (lanes on r) i = (l : ℕ) → l < fixedOf m .numt → on l ≡ true → i ≡ slotOf r l → ⊥
+SparesWord m (lanes on r) i = (l : Lane) → l .0 < fixedOf m .numt → on l ≡ true → i ≡ slotOf r l → ⊥
 SparesWord m nothing i = Unit {0}
 SparesWord m (scalar r) i = Unit {0}
 SparesWord m (split j) i = Unit {0}
 SparesWord m (bytes n on width place) i = Unit {0}
 
 abbrev pub SparesByte : Target → ℕ → Type 0
-SparesByte (bytes n on width place) i = (l : ℕ) → l < n → on l ≡ true → place l ≤ i → i < place l + width → ⊥
+SparesByte (bytes n on width place) i = (l : Lane) → l .0 < n → on l ≡ true → place l ≤ i → i < place l + width → ⊥
 SparesByte nothing i = Unit {0}
 SparesByte (scalar r) i = Unit {0}
 SparesByte (split j) i = Unit {0}
@@ -158,7 +160,7 @@ module _ (m : State) where
         size = refl;
       }
 
-  fills : (on : ℕ → Bool) (r : VReg) (f : ℕ → ℕ) → Within m (lanes on r) (effect (writes on r f) m)
+  fills : (on : Lane → Bool) (r : VReg) (f : Lane → ℕ) → Within m (lanes on r) (effect (writes on r f) m)
   fills on r f =
       record {
         x = λ i h. refl;
@@ -177,9 +179,9 @@ module _ (m : State) where
       record { x = λ i h. refl; splits = λ i h. refl; vector = λ i h. refl; memory = o; fixed = refl; scalars = refl; records = refl; words = refl; size = s }
 
   stored : (k : StoreOp) (a y : ℕ) → Within m (bytes 1 (λ l. true) (widthOf k) (λ l. indexIn (memoryOf m) a)) (effect (stores (storeOf k a y (memoryOf m))) m)
-  stored k a y = kept _ _ (λ i h. store-unwritten k a y (memoryOf m) i (h 0 (omega arith) refl)) (store-length k a y (memoryOf m))
+  stored k a y = kept _ _ (λ i h. store-unwritten k a y (memoryOf m) i (h (lane 0) (omega arith) refl)) (store-length k a y (memoryOf m))
 
-  lane-stored : (on : ℕ → Bool) (k : StoreOp) (at y : ℕ → ℕ)
+  lane-stored : (on : Lane → Bool) (k : StoreOp) (at y : Lane → ℕ)
       → Within m (bytes (fixedOf m .numt) on (widthOf k) (λ l. indexIn (memoryOf m) (at l))) (effect (stores (storeLanes (fixedOf m .numt) on k at y (memoryOf m))) m)
   lane-stored on k at y =
       kept _ _ (λ i h. lanes-unwritten (fixedOf m .numt) on k at y (memoryOf m) i h) (lanes-length (fixedOf m .numt) on k at y (memoryOf m))
@@ -206,7 +208,7 @@ module _ (m : State) where
   joined =
       by-cond (G (split (m .warp .depth - 1))) (eqb (m .warp .depth) 0) _ _ (λ z. leaves _ _ refl refl refl)
       (λ z. by-cond (G (split (m .warp .depth - 1))) (eqb (m .warp .pc) (lastSplit (m .warp) .rpc)) _ _
-      (λ q. by-cond (G (split (m .warp .depth - 1))) (lastSplit (m .warp) .phasetwo) _ _ (λ s. records-at _ _ _ refl refl refl) (λ s. records-at _ _ _ refl refl refl))
+      (λ q. by-cond (G (split (m .warp .depth - 1))) (lastSplit (m .warp) .phaseTwo) _ _ (λ s. records-at _ _ _ refl refl refl) (λ s. records-at _ _ _ refl refl refl))
       (λ q. leaves _ _ refl refl refl))
 
   setrpc : (r a : XReg) (n : ℕ) → G (scalar r) (setRpcOf r a n (m .warp))
@@ -253,19 +255,19 @@ step-within k m = by-cond (Within m (targetOf (instrAt k m) m)) (eqb (first (tes
 -- ---- how much that is
 
 -- at most a store of four bytes by each of the lanes
-abbrev pub Small : Target → Type 0
-Small nothing = Unit {0}
-Small (scalar r) = Unit {0}
-Small (split j) = Unit {0}
-Small (lanes on r) = Unit {0}
-Small (bytes n on width place) = (n ≤ lanesMax) × (width ≤ 4)
+abbrev pub SmallTarget : Target → Type 0
+SmallTarget nothing = Unit {0}
+SmallTarget (scalar r) = Unit {0}
+SmallTarget (split j) = Unit {0}
+SmallTarget (lanes on r) = Unit {0}
+SmallTarget (bytes n on width place) = (n ≤ lanesMax) × (width ≤ 4)
 
 four : (k : StoreOp) → widthOf k ≤ 4
 four S.B = lit≤ tt
 four S.H = lit≤ tt
 four S.W = lit≤ tt
 
-pub target-small : (m : State) → fixedOf m .numt ≤ lanesMax → (i : Instr) → Small (targetOf i m)
+pub target-small : (m : State) → fixedOf m .numt ≤ lanesMax → (i : Instr) → SmallTarget (targetOf i m)
 unfolding targetOf
 target-small m h I.Refused = tt
 target-small m h (I.Lui r n) = tt

@@ -19,14 +19,14 @@ use Rattle.definition.specs.Exec.{effect, effectOf}
 use Rattle.definition.specs.Step.{stepOf, execOf, fetchOf}
 
 -- The answer of a step is the number of the first row that holds, 0 where none does.
-pub step-table : (k : List ℕ) (m : State) → stepOf k m .code ≡ first (testsOf k m)
+pub step-rows : (k : List ℕ) (m : State) → stepOf k m .code ≡ first (testsOf k m)
 unfolding stepOf
-step-table k m = refl
+step-rows k m = refl
 
 -- A refused step leaves all as it was handed in.
-pub step-keeps : (k : List ℕ) (m : State) → (stepOf k m .code ≡ 0 → ⊥) → stepOf k m ≡ outcome (stepOf k m .code) m
+pub step-kept : (k : List ℕ) (m : State) → (stepOf k m .code ≡ 0 → ⊥) → stepOf k m ≡ outcome (stepOf k m .code) m
 unfolding stepOf
-step-keeps k m n = rw (ne-eqb _ _ n)
+step-kept k m n = rw (ne-eqb _ _ n)
 
 -- ---- the numbers
 

@@ -1,5 +1,5 @@
 -- The other calls: a launch, a run of counted steps, a release.
-use Prim.Native.Nat.{ℕ, zero, suc, _+_}
+use Prim.Native.Nat.{ℕ, zero, suc, _+_, _^_}
 use mathlib.Core.Bool.{false, cond}
 use mathlib.Core.List.{List}
 use lib.Dec.{eqb}
@@ -21,7 +21,7 @@ launchedOf l =
       splits = replicate splitCount zeroSplit;
       depth = 0;
       pc = l .entry;
-      mask = l .fixed .launchmask;
+      mask = l .fixed .launchMask;
       rpc = 0;
       print = 0;
       ended = false;
@@ -47,6 +47,10 @@ stepsOf k zero t m = ran t (outcome 0 m)
 stepsOf k (suc n) t m =
     let o : Outcome = stepOf k m in
     cond (eqb (o .code) 0) (stepsOf k n (t + 1) (o .left)) (ran t o)
+
+-- a run's budget is below this: 0 to 2^32 − 1 steps
+abbrev pub budgetLimit : ℕ
+budgetLimit = 2 ^ 32
 
 -- refusals 1 and 2 are tested even for 0 steps
 unfoldable pub runOf : List ℕ → ℕ → State → Ran

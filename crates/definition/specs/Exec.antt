@@ -1,8 +1,13 @@
 -- What each instruction does where no test refuses it: total, with no number in it, one line an instruction.
 use Prim.Native.Nat.{ℕ, _*_, _^_}
-use mathlib.Core.Bool.{Bool, true, false}
+use mathlib.Core.Bool.{Bool, true, false, cond, _||_}
 use mathlib.Core.List.{List}
+use denote.Enum.Declared.{tagOf}
+use lib.Dec.{eqb}
 use Rattle.word.specs.Word.{addOf, applyOf, holdsOf, extendOf}
+use Rattle.word.specs.declared.Op.{Op}
+use Rattle.word.specs.declared.Op.the-variants.{Sll, Srl, Sra}
+use Rattle.word.proofs.Op.{the-type}
 use Rattle.isa.specs.declared.Instr.{Instr}
 use Rattle.isa.specs.declared.Instr.the-variants as I
 use Rattle.isa.specs.declared.Source.{Source}
@@ -10,6 +15,7 @@ use Rattle.isa.specs.declared.Source.the-variants as From
 use Rattle.isa.specs.declared.LoadOp.{LoadOp}
 use Rattle.isa.specs.declared.XReg.{XReg}
 use Rattle.isa.specs.declared.VReg.{VReg}
+use Rattle.lanes.specs.declared.Lane.{Lane}
 use Rattle.lanes.specs.Lanes.{laneOf, operandOf, opLane, writeLanes, valueOf}
 use Rattle.lanes.specs.declared.Operand.{Operand}
 use Rattle.lanes.specs.declared.Operand.the-variants.{Reg, Word}
@@ -24,7 +30,7 @@ use Rattle.definition.specs.State.{State, state, fixedOf, active, xOf, p
 -- the warp becomes u; register r of each lane l below NUMT that `on` picks gets f l, then PC + 4; the data memory's bytes become e, then PC + 4
 pub data Effect : Type 0 where
   goes : Warp → Effect
-  writes : (ℕ → Bool) → VReg → (ℕ → ℕ) → Effect
+  writes : (Lane → Bool) → VReg → (Lane → ℕ) → Effect
   stores : List ℕ → Effect
 
 abbrev pub effect : Effect → State → State
@@ -37,27 +43,30 @@ abbrev pub puts : XReg → ℕ → State → Effect
 puts r y m = goes (next (writeX r y (m .warp)))
 
 -- to register r, in the active lanes
-abbrev pub lanes : VReg → (ℕ → ℕ) → State → Effect
+abbrev pub lanes : VReg → (Lane → ℕ) → State → Effect
 lanes r f m = writes (active m) r f
 
--- an upper immediate
-abbrev pub upper : ℕ → ℕ
-upper n = n * 2 ^ 12
+-- vsll, vsrl, vsra
+abbrev pub isShift : Op → Bool
+isShift o = let n : ℕ = tagOf the-type o in eqb n (tagOf the-type Sll) || eqb n (tagOf the-type Srl) || eqb n (tagOf the-type Sra)
 
--- a vector word's last operand: a register's lane, or one word for all lanes. A VI form's 5-bit immediate is sign-extended; a shift looks only at its
--- low five bits, which are the field itself, so that its immediate is unsigned (the law shift-immediate)
-abbrev pub sourceOf : Source → State → Operand
-sourceOf (From.V r) m = Reg r
-sourceOf (From.X r) m = Word (xOf r m)
-sourceOf (From.I i) m = Word (extendOf 5 i)
+-- an operation's 5-bit immediate: a shift's is the field itself, every other one's is the field sign-extended
+abbrev pub immediateOf : Op → ℕ → ℕ
+immediateOf o i = cond (isShift o) i (extendOf 5 i)
+
+-- a vector word's last operand: a register's lane, or one word for all lanes; of a VI form, what f makes of the 5-bit field
+abbrev pub sourceOf : (ℕ → ℕ) → Source → State → Operand
+sourceOf f (From.V r) m = Reg r
+sourceOf f (From.X r) m = Word (xOf r m)
+sourceOf f (From.I i) m = Word (f i)
 
 abbrev pub loaded : LoadOp → ℕ → State → ℕ
 loaded k a m = loadOf k (memoryOf m) a
 
 unfoldable pub effectOf : Instr → State → Effect
 effectOf I.Refused m = goes (m .warp)
-effectOf (I.Lui r n) m = puts r (upper n) m
-effectOf (I.Auipc r n) m = puts r (addOf (m .warp .pc) (upper n)) m
+effectOf (I.Lui r n) m = puts r (n * 2 ^ 12) m
+effectOf (I.Auipc r n) m = puts r (addOf (m .warp .pc) (n * 2 ^ 12)) m
 effectOf (I.Jal r n) m = goes (linked r (pcBy 21 n m) (m .warp))
 effectOf (I.Jalr r a n) m = goes (linked r (evenOf (scalarAt a n m)) (m .warp))
 effectOf (I.Branch c a b n) m = goes (branched (holdsOf c (xOf a m) (xOf b m)) (pcBy 13 n m) (m .warp))
@@ -68,11 +77,11 @@ effectOf (I.OpReg o r a b) m = puts r (applyOf o (xOf a m) (xOf b m)) m
 effectOf (I.Fence r a n) m = goes (next (m .warp))
 effectOf (I.Csr o r a n) m = goes (csrDone o n r (a .0) (xOf a m) (m .warp))
 effectOf (I.CsrImm o r i n) m = goes (csrDone o n r i i (m .warp))
-effectOf (I.Vector o a) m = lanes (a .vd) (opLane o (m .vector) (a .vs2) (sourceOf (a .src) m)) m
-effectOf (I.VMove r s) m = lanes r (operandOf (m .vector) (sourceOf s m)) m
+effectOf (I.Vector o a) m = lanes (a .vd) (opLane o (m .vector) (a .vs2) (sourceOf (immediateOf o) (a .src) m)) m
+effectOf (I.VMove r s) m = lanes r (operandOf (m .vector) (sourceOf (extendOf 5) s m)) m
 effectOf (I.VMoveXS r b) m = puts r (valueOf (fixedOf m .numt) (active m) (laneOf (m .vector) b)) m
 effectOf (I.VMoveSX r a) m = lanes r (λ l. xOf a m) m
-effectOf (I.Vid r) m = lanes r (λ l. l) m
+effectOf (I.Vid r) m = lanes r (λ l. l .0) m
 effectOf (I.VBranch c a b n) m = goes (parted (elseOf c a b m) (pcBy 13 n m) (m .warp))
 effectOf I.Join m = goes (joinOf (m .warp))
 effectOf (I.SetRpc r a n) m = goes (setRpcOf r a n (m .warp))

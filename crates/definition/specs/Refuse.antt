@@ -9,6 +9,7 @@ use Rattle.word.specs.Word.{holdsOf}
 use Rattle.isa.specs.declared.CsrOp.{CsrOp}
 use Rattle.isa.specs.declared.Instr.{Instr}
 use Rattle.isa.specs.declared.Instr.the-variants as I
+use Rattle.lanes.specs.declared.Lane.{Lane}
 use Rattle.lanes.specs.Lanes.{fileWords, laneOf, uniformOf}
 use Rattle.memory.specs.Memory.{memory, memoryOkOf, sizeOf, widthOf, insideOf}
 use Rattle.memory.specs.LaneAccess.{allInside}
@@ -31,9 +32,9 @@ unfoldable pub runsOkOf : Fixed → List ℕ → List ℕ → List ℕ → Bool
 runsOkOf f k v d =
     every
     (between 1 (length k) kernelLimit
-    ∷ leb (f .codebase + 4 * length k) (2 ^ 32)
+    ∷ leb (f .codeBase + 4 * length k) (2 ^ 32)
     ∷ eqb (length v) fileWords
-    ∷ memoryOkOf (memory (f .database) d)
+    ∷ memoryOkOf (memory (f .dataBase) d)
     ∷ [])
 
 -- what a step and a run test first
@@ -43,7 +44,7 @@ stateTests k m = 1 ⇒ not (runsOkOf (fixedOf m) k (m .vector) (m .bytes)) ∷ 2
 -- ---- 3 to 5: before a word is looked at
 
 abbrev pub onKernel : List ℕ → Warp → Bool
-onKernel k w = leb (w .fixed .codebase) (w .pc) && ltb (placeOf w) (length k)
+onKernel k w = leb (w .fixed .codeBase) (w .pc) && ltb (placeOf w) (length k)
 
 abbrev pub fetchTests : List ℕ → Warp → List (Row Bool)
 fetchTests k w = 3 ⇒ w .ended ∷ 4 ⇒ w .waiting ∷ 5 ⇒ not (onKernel k w) ∷ []
@@ -62,14 +63,14 @@ astray p = not (aligned p)
 abbrev pub outside : ℕ → ℕ → State → Bool
 outside n a m = not (insideOf (memoryOf m) n a)
 
-abbrev pub someOutside : ℕ → (ℕ → ℕ) → State → Bool
+abbrev pub someOutside : ℕ → (Lane → ℕ) → State → Bool
 someOutside n at m = not (allInside (fixedOf m .numt) (active m) (memoryOf m) n at)
 
 -- the active lanes' words differ
-abbrev pub mixed : (ℕ → ℕ) → State → Bool
+abbrev pub mixed : (Lane → ℕ) → State → Bool
 mixed f m = not (uniformOf (fixedOf m .numt) (active m) f)
 
--- a split is open
+-- a split is open; that BARRIER is refused there is a house rule
 abbrev pub inSplit : State → Bool
 inSplit m = not (eqb (m .warp .depth) 0)
 

@@ -11,6 +11,7 @@ use Rattle.isa.specs.declared.Space.{Space}
 use Rattle.isa.specs.declared.XReg.{XReg}
 use Rattle.isa.specs.declared.VReg.{VReg}
 use Rattle.isa.specs.Decode.{decodeOf}
+use Rattle.lanes.specs.declared.Lane.{Lane}
 use Rattle.lanes.specs.Mask.{bit}
 use Rattle.lanes.specs.Lanes.{maskOf, wantsOf}
 use Rattle.memory.specs.Memory.{Memory, memory}
@@ -48,7 +49,7 @@ abbrev pub fixedOf : State → Fixed
 fixedOf m = m .warp .fixed
 
 -- lane l is active
-abbrev pub active : State → ℕ → Bool
+abbrev pub active : State → Lane → Bool
 active m = bit (m .warp .mask)
 
 abbrev pub xOf : XReg → State → ℕ
@@ -64,7 +65,7 @@ evenOf p = p - p % 2
 
 -- the data memory, with its base
 abbrev pub memoryOf : State → Memory
-memoryOf m = memory (fixedOf m .database) (m .bytes)
+memoryOf m = memory (fixedOf m .dataBase) (m .bytes)
 
 -- the address of a scalar access
 abbrev pub scalarAt : XReg → ℕ → State → ℕ
@@ -75,7 +76,7 @@ abbrev pub privateIn : Fixed → Private
 privateIn f = record { numt = f .numt; numw = f .numw; tid = tidOf f; pds = f .pds }
 
 -- the address of lane l's access, plain or private
-abbrev pub laneAt : Space → VReg → ℕ → State → ℕ → ℕ
+abbrev pub laneAt : Space → VReg → ℕ → State → Lane → ℕ
 laneAt s a n m = laneAddress s (privateIn (fixedOf m)) (m .vector) a n
 
 -- the lanes that want VBRANCH's else PC
@@ -86,7 +87,7 @@ elseOf c a b m = maskOf (fixedOf m .numt) (wantsOf (m .vector) (m .warp .mask) c
 
 -- which kernel word the PC lies on
 abbrev pub placeOf : Warp → ℕ
-placeOf w = (w .pc - w .fixed .codebase) / 4
+placeOf w = (w .pc - w .fixed .codeBase) / 4
 
 -- its instruction; a word that isn't in the tables decodes to Refused
 abbrev pub instrAt : List ℕ → State → Instr

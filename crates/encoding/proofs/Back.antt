@@ -14,14 +14,14 @@ use Rattle.isa.specs.declared.Source.the-variants as From
 use Rattle.isa.specs.declared.Instr.{Instr}
 use Rattle.isa.specs.declared.Instr.the-variants as I
 use Rattle.isa.specs.Fields.{Fields, fieldsOf, funct6, vm, immI, immS, immB, immU, immJ, privateLoadOffset, privateStoreOffset}
-use Rattle.isa.specs.Table.{on, wordAt, wordsOf}
-use Rattle.isa.specs.Scalar.{luiOf, auipcOf, jalOf, jumps, jalrOf, conditions, branchAs, branchOf, loads, loadAs, loadOf, stores, storeAs, storeOf, immediates, leftShifts, rightShifts, immediateAs, shiftAs, shiftOf, shifts, opImmOf, opAs, byFunct3, ops, opOf, fences, fenceOf, csrs, csrImmediates, csrAs, csrImmAs, csrOf}
-use Rattle.isa.specs.Vector.{Formed, has, vectorTable, multiplyTable, vectorAs, moves, plainOf, movesM, multiplyOf, fromV, fromX, fromI, operands, operandsOf, vectorOf}
-use Rattle.isa.specs.Ventus.{vbranchAs, joinOf, joins, splitsOf, endPrgOf, barrierOf, stops, stopOf, vstores, accesses, vloadAs, vstoreAs, laneAccessOf, ploadAs, pstoreAs, privateOf}
+use Rattle.isa.specs.Table.{on, wordAt, asWords}
+use Rattle.isa.specs.Scalar.{luiWord, auipcWord, jalWord, jumps, jalrWord, conditions, branchAs, branchWord, loads, loadAs, loadWord, stores, storeAs, storeWord, immediates, leftShifts, rightShifts, immediateAs, shiftAs, shiftWord, shifts, opImmWord, opAs, byFunct3, ops, opWord, fences, fenceWord, csrOps, csrImmediates, csrAs, csrImmAs, csrWord}
+use Rattle.isa.specs.Vector.{OpForms, has, vectorTable, multiplyTable, vectorAs, moves, plainWord, movesM, multiplyWord, fromV, fromX, fromI, operands, operandsWord, vectorWord}
+use Rattle.isa.specs.Ventus.{vbranchAs, joinWord, joins, splitsWord, endPrgWord, barrierWord, stops, stopWord, vstores, accesses, vloadAs, vstoreAs, laneAccessWord, ploadAs, pstoreAs, privateWord}
 use Rattle.isa.specs.Decode.{opcodes, decodeOf}
 use Rattle.isa.specs.Fits.{fieldOf}
-use Rattle.isa.proofs.Laws.{both, Rows, found, rows-append, every, rows-tested, fixed-at}
-use Rattle.isa.proofs.Decoded.{Small, small}
+use Rattle.isa.proofs.Laws.{both-true, Rows, found, rows-append, every-row, rows-tested, fixed-at}
+use Rattle.isa.proofs.Decoded.{SmallFields, small}
 use Rattle.encoding.specs.Encode.{condNumber, loadNumber, storeNumber, csrNumber, codeIn, firstOf, secondOf, opCodes, immCodes, vectorCodes, operandCode, wordFrom, typeR, typeI, typeS, typeB, typeU, typeJ, unmasked, wordOf}
 
 -- a word is its fields, one cut at a time
@@ -127,9 +127,9 @@ abbrev coded : ℕ → ℕ → ℕ → ℕ → Bool
 coded a k b n = eqb a k && eqb b n
 
 codes : (a k b n : ℕ) → T (coded a k b n) → (a ≡ k) × (b ≡ n)
-codes a k b n q = let s = both (eqb a k) (eqb b n) q in (eqb→eq a k (s .0), eqb→eq b n (s .1))
+codes a k b n q = let s = both-true (eqb a k) (eqb b n) q in (eqb→eq a k (s .0), eqb→eq b n (s .1))
 
-module _ (op : ℕ) (c : Fields) (h : Small c) where
+module _ (op : ℕ) (c : Fields) (h : SmallFields c) where
   type-I : (f3 : ℕ) → f3 ≡ c .funct3 → wordFrom op (typeI (immI c) (c .rs1) f3 (c .rd)) ≡ wordFrom op c
   type-I f3 e = same op c _ _ _ _ _ (high (c .funct7) (c .rs2) (h .rs2)) (low (c .funct7) (c .rs2) (h .rs2)) refl e refl
 
@@ -173,47 +173,47 @@ module _ (op : ℕ) (c : Fields) (h : Small c) where
 
   -- a table of ops by one code, each of which has its code back
   table-back :
-      {A : Type 0} (make : A → Fields → Instr) (code : A → ℕ) (k : ℕ) (t : List (Row A)) → T (every (λ a n. eqb (code a) n) t)
-      → ((a : A) → code a ≡ k → wordOf (make a c) ≡ wordFrom op c) → Rows (Back op c) (on c) k (wordsOf make t)
+      {A : Type 0} (make : A → Fields → Instr) (code : A → ℕ) (k : ℕ) (t : List (Row A)) → T (every-row (λ a n. eqb (code a) n) t)
+      → ((a : A) → code a ≡ k → wordOf (make a c) ≡ wordFrom op c) → Rows (Back op c) (on c) k (asWords make t)
   table-back make code k t q f = rows-tested (Back op c) make (λ a n. eqb (code a) n) c k t q (λ a q ne. f a (eqb→eq (code a) k q))
 
-module _ (c : Fields) (h : Small c) where
-  lui-back : Back 0b0110111 c (luiOf c)
+module _ (c : Fields) (h : SmallFields c) where
+  lui-back : Back 0b0110111 c (luiWord c)
   unfolding wordOf
   lui-back ne = type-U 0b0110111 c h
 
-  auipc-back : Back 0b0010111 c (auipcOf c)
+  auipc-back : Back 0b0010111 c (auipcWord c)
   unfolding wordOf
   auipc-back ne = type-U 0b0010111 c h
 
-  jal-back : Back 0b1101111 c (jalOf c)
+  jal-back : Back 0b1101111 c (jalWord c)
   unfolding wordOf
   jal-back ne = type-J 0b1101111 c h
 
-  jalr-back : Back 0b1100111 c (jalrOf c)
-  unfolding jalrOf wordOf
+  jalr-back : Back 0b1100111 c (jalrWord c)
+  unfolding jalrWord wordOf
   jalr-back = found (Back 0b1100111 c) (on c) I.Refused (c .funct3) jumps (refused _ c) ((λ e ne. type-I 0b1100111 c h 0 (sym e)), tt)
 
-  branch-back : Back 0b1100011 c (branchOf c)
-  unfolding branchOf wordOf
+  branch-back : Back 0b1100011 c (branchWord c)
+  unfolding branchWord wordOf
   branch-back =
-      found (Back 0b1100011 c) (on c) I.Refused (c .funct3) (wordsOf branchAs conditions) (refused _ c)
+      found (Back 0b1100011 c) (on c) I.Refused (c .funct3) (asWords branchAs conditions) (refused _ c)
       (table-back 0b1100011 c h branchAs (codeIn condNumber conditions) (c .funct3) conditions tt (λ o e. type-B 0b1100011 c h _ e))
 
-  load-back : Back 0b0000011 c (loadOf c)
-  unfolding loadOf wordOf
+  load-back : Back 0b0000011 c (loadWord c)
+  unfolding loadWord wordOf
   load-back =
-      found (Back 0b0000011 c) (on c) I.Refused (c .funct3) (wordsOf loadAs loads) (refused _ c)
+      found (Back 0b0000011 c) (on c) I.Refused (c .funct3) (asWords loadAs loads) (refused _ c)
       (table-back 0b0000011 c h loadAs (codeIn loadNumber loads) (c .funct3) loads tt (λ o e. type-I 0b0000011 c h _ e))
 
-  store-back : Back 0b0100011 c (storeOf c)
-  unfolding storeOf wordOf
+  store-back : Back 0b0100011 c (storeWord c)
+  unfolding storeWord wordOf
   store-back =
-      found (Back 0b0100011 c) (on c) I.Refused (c .funct3) (wordsOf storeAs stores) (refused _ c)
+      found (Back 0b0100011 c) (on c) I.Refused (c .funct3) (asWords storeAs stores) (refused _ c)
       (table-back 0b0100011 c h storeAs (codeIn storeNumber stores) (c .funct3) stores tt (λ o e. type-S 0b0100011 c h _ e))
 
   -- OP-IMM: the code by funct3, and a shift's by funct7
-  immediates-back : Rows (Back 0b0010011 c) (on c) (c .funct3) (wordsOf immediateAs immediates)
+  immediates-back : Rows (Back 0b0010011 c) (on c) (c .funct3) (asWords immediateAs immediates)
   unfolding wordOf
   immediates-back =
       rows-tested (Back 0b0010011 c) immediateAs (λ o n. coded (secondOf immCodes o) 0 (firstOf immCodes o) n) c (c .funct3) immediates tt
@@ -227,55 +227,55 @@ module _ (c : Fields) (h : Small c) where
   shift-word o e₁ e₂ ne = rw e₁ (type-I 0b0010011 c h _ e₂)
 
   shift-back :
-      (t : List (Row Op)) → T (every (λ o n. coded (firstOf immCodes o) (c .funct3) (secondOf immCodes o) n) t)
-      → Back 0b0010011 c (shiftOf t c)
-  unfolding shiftOf
+      (t : List (Row Op)) → T (every-row (λ o n. coded (firstOf immCodes o) (c .funct3) (secondOf immCodes o) n) t)
+      → Back 0b0010011 c (shiftWord t c)
+  unfolding shiftWord
   shift-back t q =
-      found (Back 0b0010011 c) (on c) I.Refused (c .funct7) (wordsOf shiftAs t) (refused _ c)
+      found (Back 0b0010011 c) (on c) I.Refused (c .funct7) (asWords shiftAs t) (refused _ c)
       (rows-tested (Back 0b0010011 c) shiftAs (λ o n. coded (firstOf immCodes o) (c .funct3) (secondOf immCodes o) n) c (c .funct7) t q
       (λ o q. let e = codes (firstOf immCodes o) (c .funct3) (secondOf immCodes o) (c .funct7) q in shift-word o (e .1) (e .0)))
 
   abbrev shiftsAt : List (Row Op) → ℕ → Type 0
-  shiftsAt t k = T (every (λ o n. coded (firstOf immCodes o) k (secondOf immCodes o) n) t)
+  shiftsAt t k = T (every-row (λ o n. coded (firstOf immCodes o) k (secondOf immCodes o) n) t)
 
-  op-imm-back : Back 0b0010011 c (opImmOf c)
-  unfolding opImmOf
+  op-imm-back : Back 0b0010011 c (opImmWord c)
+  unfolding opImmWord
   op-imm-back =
-      found (Back 0b0010011 c) (on c) I.Refused (c .funct3) (wordsOf immediateAs immediates ++ shifts) (refused _ c)
-      (rows-append (Back 0b0010011 c) (on c) (c .funct3) (wordsOf immediateAs immediates) shifts immediates-back (
+      found (Back 0b0010011 c) (on c) I.Refused (c .funct3) (asWords immediateAs immediates ++ shifts) (refused _ c)
+      (rows-append (Back 0b0010011 c) (on c) (c .funct3) (asWords immediateAs immediates) shifts immediates-back (
         (λ e. shift-back leftShifts (subst (shiftsAt leftShifts) (sym e) tt)),
         ((λ e. shift-back rightShifts (subst (shiftsAt rightShifts) (sym e) tt)), tt),
       ))
 
   -- OP: the table by funct7, the row by funct3
   abbrev opsAt : List (Row Op) → ℕ → Bool
-  opsAt t k = every (λ o n. coded (firstOf opCodes o) k (secondOf opCodes o) n) t
+  opsAt t k = every-row (λ o n. coded (firstOf opCodes o) k (secondOf opCodes o) n) t
 
   by-funct3-back : (t : List (Row Op)) → T (opsAt t (c .funct7)) → Back 0b0110011 c (byFunct3 t c)
   unfolding byFunct3 wordOf
   by-funct3-back t q =
-      found (Back 0b0110011 c) (on c) I.Refused (c .funct3) (wordsOf opAs t) (refused _ c)
+      found (Back 0b0110011 c) (on c) I.Refused (c .funct3) (asWords opAs t) (refused _ c)
       (rows-tested (Back 0b0110011 c) opAs (λ o n. coded (firstOf opCodes o) (c .funct7) (secondOf opCodes o) n) c (c .funct3) t q
       (λ o q ne.
       let e = codes (firstOf opCodes o) (c .funct7) (secondOf opCodes o) (c .funct3) q in
       same 0b0110011 c _ _ _ _ _ (e .0) refl refl (e .1) refl))
 
-  op-back : Back 0b0110011 c (opOf c)
-  unfolding opOf
+  op-back : Back 0b0110011 c (opWord c)
+  unfolding opWord
   op-back =
-      found (Back 0b0110011 c) (on c) I.Refused (c .funct7) (wordsOf byFunct3 ops) (refused _ c)
+      found (Back 0b0110011 c) (on c) I.Refused (c .funct7) (asWords byFunct3 ops) (refused _ c)
       (rows-tested (Back 0b0110011 c) byFunct3 opsAt c (c .funct7) ops tt by-funct3-back)
 
-  fence-back : Back 0b0001111 c (fenceOf c)
-  unfolding fenceOf wordOf
+  fence-back : Back 0b0001111 c (fenceWord c)
+  unfolding fenceWord wordOf
   fence-back = found (Back 0b0001111 c) (on c) I.Refused (c .funct3) fences (refused _ c) ((λ e ne. type-I 0b0001111 c h 0 (sym e)), tt)
 
-  csr-back : Back 0b1110011 c (csrOf c)
-  unfolding csrOf wordOf
+  csr-back : Back 0b1110011 c (csrWord c)
+  unfolding csrWord wordOf
   csr-back =
-      found (Back 0b1110011 c) (on c) I.Refused (c .funct3) (wordsOf csrAs csrs ++ wordsOf csrImmAs csrImmediates) (refused _ c)
-      (rows-append (Back 0b1110011 c) (on c) (c .funct3) (wordsOf csrAs csrs) (wordsOf csrImmAs csrImmediates)
-      (table-back 0b1110011 c h csrAs (codeIn csrNumber csrs) (c .funct3) csrs tt (λ o e. type-I 0b1110011 c h _ e))
+      found (Back 0b1110011 c) (on c) I.Refused (c .funct3) (asWords csrAs csrOps ++ asWords csrImmAs csrImmediates) (refused _ c)
+      (rows-append (Back 0b1110011 c) (on c) (c .funct3) (asWords csrAs csrOps) (asWords csrImmAs csrImmediates)
+      (table-back 0b1110011 c h csrAs (codeIn csrNumber csrOps) (c .funct3) csrOps tt (λ o e. type-I 0b1110011 c h _ e))
       (table-back 0b1110011 c h csrImmAs (codeIn csrNumber csrImmediates) (c .funct3) csrImmediates tt
       (λ o e. type-I 0b1110011 c h _ e)))
 
@@ -285,8 +285,8 @@ module _ (c : Fields) (h : Small c) where
     odd n e = omega arith
 
     formed-back :
-        (t : List (Row Formed)) → T (every (λ f n. coded (firstOf vectorCodes (f .op)) g (secondOf vectorCodes (f .op)) n) t)
-        → Rows (Back 0b1010111 c) (on c) (funct6 c) (wordsOf (vectorAs s) t)
+        (t : List (Row OpForms)) → T (every-row (λ f n. coded (firstOf vectorCodes (f .op)) g (secondOf vectorCodes (f .op)) n) t)
+        → Rows (Back 0b1010111 c) (on c) (funct6 c) (asWords (vectorAs s) t)
     unfolding wordOf
     formed-back t q =
         rows-tested (Back 0b1010111 c) (vectorAs s) (λ f n. coded (firstOf vectorCodes (f .op)) g (secondOf vectorCodes (f .op)) n) c
@@ -296,11 +296,11 @@ module _ (c : Fields) (h : Small c) where
         where-formed 0b1010111 c (has s f) _
         (λ ne. same 0b1010111 c _ _ _ _ _ (odd _ (e .1)) refl r (rw (e .0) o) refl))
 
-  plain-back : (s : Source) → vm c ≡ 1 → fieldOf s ≡ c .rs1 → operandCode 0 s ≡ c .funct3 → Back 0b1010111 c (plainOf s c)
-  unfolding plainOf wordOf
+  plain-back : (s : Source) → vm c ≡ 1 → fieldOf s ≡ c .rs1 → operandCode 0 s ≡ c .funct3 → Back 0b1010111 c (plainWord s c)
+  unfolding plainWord wordOf
   plain-back s m r o =
-      found (Back 0b1010111 c) (on c) I.Refused (funct6 c) (moves s ++ wordsOf (vectorAs s) vectorTable) (refused _ c)
-      (rows-append (Back 0b1010111 c) (on c) (funct6 c) (moves s) (wordsOf (vectorAs s) vectorTable) (
+      found (Back 0b1010111 c) (on c) I.Refused (funct6 c) (moves s ++ asWords (vectorAs s) vectorTable) (refused _ c)
+      (rows-append (Back 0b1010111 c) (on c) (funct6 c) (moves s) (asWords (vectorAs s) vectorTable) (
         (λ e.
             fixed-at (Back 0b1010111 c) (c .rs2) 0 _ (refused _ c)
             (λ z ne. same 0b1010111 c _ _ _ _ _ (odd m s 0 r o _ (sym e)) (sym z) r o refl)),
@@ -331,17 +331,17 @@ module _ (c : Fields) (h : Small c) where
   )
   moves-m-back (From.I n) m o r = tt
 
-  multiply-back : (s : Source) → vm c ≡ 1 → fieldOf s ≡ c .rs1 → operandCode 2 s ≡ c .funct3 → Back 0b1010111 c (multiplyOf s c)
-  unfolding multiplyOf
+  multiply-back : (s : Source) → vm c ≡ 1 → fieldOf s ≡ c .rs1 → operandCode 2 s ≡ c .funct3 → Back 0b1010111 c (multiplyWord s c)
+  unfolding multiplyWord
   multiply-back s m r o =
-      found (Back 0b1010111 c) (on c) I.Refused (funct6 c) (movesM s ++ wordsOf (vectorAs s) multiplyTable) (refused _ c)
-      (rows-append (Back 0b1010111 c) (on c) (funct6 c) (movesM s) (wordsOf (vectorAs s) multiplyTable) (moves-m-back s m o r)
+      found (Back 0b1010111 c) (on c) I.Refused (funct6 c) (movesM s ++ asWords (vectorAs s) multiplyTable) (refused _ c)
+      (rows-append (Back 0b1010111 c) (on c) (funct6 c) (movesM s) (asWords (vectorAs s) multiplyTable) (moves-m-back s m o r)
       (formed-back m s 2 r o multiplyTable tt))
 
-  vector-back : Back 0b1010111 c (vectorOf c)
-  unfolding vectorOf operandsOf
+  vector-back : Back 0b1010111 c (vectorWord c)
+  unfolding vectorWord operandsWord
   vector-back =
-      fixed-at (Back 0b1010111 c) (vm c) 1 (operandsOf c) (refused _ c)
+      fixed-at (Back 0b1010111 c) (vm c) 1 (operandsWord c) (refused _ c)
       (λ m. found (Back 0b1010111 c) (on c) I.Refused (c .funct3) operands (refused _ c) (
         (λ e. plain-back (fromV c) m refl (sym e)),
         (
@@ -353,30 +353,36 @@ module _ (c : Fields) (h : Small c) where
         ),
       ))
 
-  join-back : c .funct3 ≡ 2 → Back 0b1011011 c (joinOf c)
-  unfolding joinOf wordOf
+  join-back : c .funct3 ≡ 2 → Back 0b1011011 c (joinWord c)
+  unfolding joinWord wordOf
   join-back e =
-      fixed-at (Back 0b1011011 c) (c .funct7 + c .rs2 + c .rs1 + c .rd) 0 I.Join (refused _ c)
-      (λ z ne. same 0b1011011 c 0 0 0 2 0 (omega arith) (omega arith) (omega arith) (sym e) (omega arith))
+      fixed-at (Back 0b1011011 c) (c .funct7) 0 _ (refused _ c)
+      (λ f. fixed-at (Back 0b1011011 c) (c .rs2) 0 _ (refused _ c)
+      (λ s. fixed-at (Back 0b1011011 c) (c .rs1) 0 _ (refused _ c)
+      (λ r. fixed-at (Back 0b1011011 c) (c .rd) 0 I.Join (refused _ c)
+      (λ d ne. same 0b1011011 c 0 0 0 2 0 (sym f) (sym s) (sym r) (sym e) (sym d)))))
 
-  splits-back : Back 0b1011011 c (splitsOf c)
-  unfolding splitsOf wordOf
+  splits-back : Back 0b1011011 c (splitsWord c)
+  unfolding splitsWord wordOf
   splits-back =
-      found (Back 0b1011011 c) (on c) I.Refused (c .funct3) (wordsOf vbranchAs conditions ++ joins) (refused _ c)
-      (rows-append (Back 0b1011011 c) (on c) (c .funct3) (wordsOf vbranchAs conditions) joins
+      found (Back 0b1011011 c) (on c) I.Refused (c .funct3) (asWords vbranchAs conditions ++ joins) (refused _ c)
+      (rows-append (Back 0b1011011 c) (on c) (c .funct3) (asWords vbranchAs conditions) joins
       (table-back 0b1011011 c h vbranchAs (codeIn condNumber conditions) (c .funct3) conditions tt (λ o e. type-B 0b1011011 c h _ e))
       ((λ e. join-back e), ((λ e ne. type-I 0b1011011 c h 3 (sym e)), tt)))
 
-  stop-back : Back 0b0001011 c (stopOf c)
-  unfolding stopOf endPrgOf barrierOf wordOf
+  stop-back : Back 0b0001011 c (stopWord c)
+  unfolding stopWord endPrgWord barrierWord wordOf
   stop-back =
       fixed-at (Back 0b0001011 c) (c .funct3) 0b100 _ (refused _ c)
       (λ f. found (Back 0b0001011 c) (on c) I.Refused (c .funct7) stops (refused _ c) (
-        (λ e. fixed-at (Back 0b0001011 c) (c .rs2 + c .rs1 + c .rd) 0 I.EndPrg (refused _ c)
-            (λ z ne. same 0b0001011 c 0 0 0 4 0 (sym e) (omega arith) (omega arith) (sym f) (omega arith))),
+        (λ e. fixed-at (Back 0b0001011 c) (c .rs2) 0 _ (refused _ c)
+            (λ s. fixed-at (Back 0b0001011 c) (c .rs1) 0 _ (refused _ c)
+            (λ r. fixed-at (Back 0b0001011 c) (c .rd) 0 I.EndPrg (refused _ c)
+            (λ d ne. same 0b0001011 c 0 0 0 4 0 (sym e) (sym s) (sym r) (sym f) (sym d))))),
         (
-          (λ e. fixed-at (Back 0b0001011 c) (c .rs2 + c .rd) 0 (I.Barrier (c .rs1)) (refused _ c)
-              (λ z ne. same 0b0001011 c 2 0 (c .rs1) 4 0 (sym e) (omega arith) refl (sym f) (omega arith))),
+          (λ e. fixed-at (Back 0b0001011 c) (c .rs2) 0 _ (refused _ c)
+              (λ s. fixed-at (Back 0b0001011 c) (c .rd) 0 (I.Barrier (c .rs1)) (refused _ c)
+              (λ d ne. same 0b0001011 c 2 0 (c .rs1) 4 0 (sym e) (sym s) refl (sym f) (sym d)))),
           tt,
         ),
       ))
@@ -389,16 +395,16 @@ module _ (c : Fields) (h : Small c) where
       → Back op c (wordAt c (c .funct3) (accesses load store))
   accesses-back op load store l s =
       found (Back op c) (on c) I.Refused (c .funct3) (accesses load store) (refused _ c)
-      (rows-append (Back op c) (on c) (c .funct3) (wordsOf load loads) (wordsOf store vstores)
+      (rows-append (Back op c) (on c) (c .funct3) (asWords load loads) (asWords store vstores)
       (table-back op c h load (codeIn loadNumber loads) (c .funct3) loads tt l)
       (table-back op c h store (codeIn storeNumber vstores) (c .funct3) vstores tt s))
 
-  lane-access-back : Back 0b1111011 c (laneAccessOf c)
-  unfolding laneAccessOf wordOf
+  lane-access-back : Back 0b1111011 c (laneAccessWord c)
+  unfolding laneAccessWord wordOf
   lane-access-back = accesses-back 0b1111011 vloadAs vstoreAs (λ o e. type-I 0b1111011 c h _ e) (λ o e. type-S 0b1111011 c h _ e)
 
-  private-back : Back 0b0101011 c (privateOf c)
-  unfolding privateOf wordOf
+  private-back : Back 0b0101011 c (privateWord c)
+  unfolding privateWord wordOf
   private-back =
       fixed-at (Back 0b0101011 c) (c .funct7 / 64) 0 _ (refused _ c)
       (λ z.

@@ -9,5 +9,5 @@ use Rattle.encoding.proofs.Back.{back}
 pub word-back : (w : ℕ) → (decodeOf w ≡ Refused → ⊥) → wordOf (decodeOf w) ≡ w
 word-back = back
 
-pub determined : (a b : ℕ) → (decodeOf a ≡ Refused → ⊥) → decodeOf a ≡ decodeOf b → a ≡ b
-determined a b ne e = sym (word-back a ne) ∙ ap wordOf e ∙ word-back b (λ r. ne (e ∙ r))
+pub word-determined : (a b : ℕ) → (decodeOf a ≡ Refused → ⊥) → decodeOf a ≡ decodeOf b → a ≡ b
+word-determined a b ne e = sym (word-back a ne) ∙ ap wordOf e ∙ word-back b (λ r. ne (e ∙ r))

@@ -20,8 +20,8 @@ use Rattle.isa.specs.declared.Space.the-variants.{Plain, Private}
 use Rattle.isa.specs.declared.Instr.{Instr}
 use Rattle.isa.specs.declared.Instr.the-variants as I
 use Rattle.isa.specs.Fields.{Fields}
-use Rattle.isa.specs.Scalar.{conditions, loads, stores, immediates, leftShifts, rightShifts, base, multiplies, alternates, csrs, csrImmediates}
-use Rattle.isa.specs.Vector.{Formed, vectorTable, multiplyTable}
+use Rattle.isa.specs.Scalar.{conditions, loads, stores, immediates, leftShifts, rightShifts, base, multiplies, alternates, csrOps, csrImmediates}
+use Rattle.isa.specs.Vector.{OpForms, vectorTable, multiplyTable}
 use Rattle.isa.specs.Ventus.{vstores}
 use Rattle.isa.specs.Number.{number}
 use Rattle.isa.specs.Fits.{fieldOf}
@@ -67,7 +67,7 @@ abbrev pub under : ℕ → List (Row Op) → List Codes
 under k [] = []
 under k (r ∷ rs) = record { op = r .is; first = k; second = r .code } ∷ under k rs
 
-abbrev pub formedUnder : ℕ → List (Row Formed) → List Codes
+abbrev pub formedUnder : ℕ → List (Row OpForms) → List Codes
 formedUnder k [] = []
 formedUnder k (r ∷ rs) = record { op = r .is .op; first = k; second = r .code } ∷ formedUnder k rs
 
@@ -145,7 +145,7 @@ wordOf (I.Store o a b n) = wordFrom 0b0100011 (typeS n (b .0) (a .0) (codeIn sto
 wordOf (I.OpImm o d a n) = wordFrom 0b0010011 (typeI (secondOf immCodes o * 32 + n) (a .0) (firstOf immCodes o) (d .0))
 wordOf (I.OpReg o d a b) = wordFrom 0b0110011 (typeR (firstOf opCodes o) (b .0) (a .0) (secondOf opCodes o) (d .0))
 wordOf (I.Fence d a n) = wordFrom 0b0001111 (typeI n a 0b000 d)
-wordOf (I.Csr o d a n) = wordFrom 0b1110011 (typeI n (a .0) (codeIn csrNumber csrs o) (d .0))
+wordOf (I.Csr o d a n) = wordFrom 0b1110011 (typeI n (a .0) (codeIn csrNumber csrOps o) (d .0))
 wordOf (I.CsrImm o d a n) = wordFrom 0b1110011 (typeI n a (codeIn csrNumber csrImmediates o) (d .0))
 wordOf (I.Vector o a) =
     wordFrom 0b1010111

@@ -7,7 +7,7 @@ ghost use Rattle.isa.specs.Table.{wordAt};
 ghost use Rattle.isa.specs.Scalar.{immediateAs, shiftAs, opAs};
 ghost use Rattle.isa.specs.Number.{opAt};
 ghost use Rattle.isa.specs.Decode.{decodeOf};
-ghost use Rattle.isa.specs.Kinds.{csrWordOf, vectorWord, laneGroups, ofRegisters, ofImmediates, opLimit, instrOf};
+ghost use Rattle.isa.specs.Kinds.{anyCsrWord, laneOpWord, laneGroups, ofRegisters, ofImmediates, opLimit, instrOf};
 use isa::Instr;
 use isa::Space;
 use isa::VecArgs;
@@ -57,7 +57,7 @@ fn shift(op: Op, w: u32) -> Instr
 }
 
 fn csr(w: u32) -> Instr
-    ensures { λ r. ⌜ r ≡ csrWordOf (fieldsOf w) ⌝ }
+    ensures { λ r. ⌜ r ≡ anyCsrWord (fieldsOf w) ⌝ }
 {
     if funct3(w) < 0b100 {
         return Instr::Csr(csr_op(w), xd(w), xs1(w), imm_i(w));
@@ -66,7 +66,7 @@ fn csr(w: u32) -> Instr
 }
 
 fn vector(kind: u32, w: u32) -> Instr
-    ensures { λ r. ⌜ r ≡ vectorWord (opAt (kind % opLimit)) (fieldsOf w) ⌝ }
+    ensures { λ r. ⌜ r ≡ laneOpWord (opAt (kind % opLimit)) (fieldsOf w) ⌝ }
 {
     let args = VecArgs {
         vd: vd(w),

@@ -1,5 +1,5 @@
 -- What a word decodes to fits (Fits.antt).
-use Prim.Native.Nat.{ℕ, _+_, _/_, _%_, _^_, _<_}
+use Prim.Native.Nat.{ℕ, _/_, _%_, _^_, _<_}
 use mathlib.Core.Path.{_≡_, refl}
 use mathlib.Core.List.{List, [], _∷_, _++_}
 use mathlib.Core.Bool.{Bool, true, false, cond, not, _&&_, _||_}
@@ -16,22 +16,22 @@ use Rattle.isa.specs.declared.Instr.{Instr}
 use Rattle.isa.specs.declared.Instr.the-variants as I
 use Rattle.isa.specs.Bounds.{fieldLimit}
 use Rattle.isa.specs.Fields.{Fields, x, v, fieldsOf, funct6, vm}
-use Rattle.isa.specs.Table.{on, wordAt, wordsOf, fixed}
-use Rattle.isa.specs.Scalar.{luiOf, auipcOf, jalOf, jumps, jalrOf, conditions, branchAs, branchOf, loads, loadAs, loadOf, stores, storeAs, storeOf, immediates, leftShifts, rightShifts, immediateAs, shiftAs, shiftOf, shifts, opImmOf, base, multiplies, alternates, opAs, byFunct3, ops, opOf, fences, fenceOf, csrs, csrImmediates, csrAs, csrImmAs, csrOf}
-use Rattle.isa.specs.Vector.{Formed, vectorTable, multiplyTable, has, vectorAs, moves, plainOf, movesM, multiplyOf, operands, operandsOf, vectorOf}
-use Rattle.isa.specs.Ventus.{vbranchAs, joinOf, joins, splitsOf, endPrgOf, barrierOf, stops, stopOf, vstores, accesses, vloadAs, vstoreAs, laneAccessOf, ploadAs, pstoreAs, privateOf}
+use Rattle.isa.specs.Table.{on, wordAt, asWords, fixed}
+use Rattle.isa.specs.Scalar.{luiWord, auipcWord, jalWord, jumps, jalrWord, conditions, branchAs, branchWord, loads, loadAs, loadWord, stores, storeAs, storeWord, immediates, leftShifts, rightShifts, immediateAs, shiftAs, shiftWord, shifts, opImmWord, base, multiplies, alternates, opAs, byFunct3, ops, opWord, fences, fenceWord, csrOps, csrImmediates, csrAs, csrImmAs, csrWord}
+use Rattle.isa.specs.Vector.{OpForms, vectorTable, multiplyTable, has, vectorAs, moves, plainWord, movesM, multiplyWord, operands, operandsWord, vectorWord}
+use Rattle.isa.specs.Ventus.{vbranchAs, joinWord, joins, splitsWord, endPrgWord, barrierWord, stops, stopWord, vstores, accesses, vloadAs, vstoreAs, laneAccessWord, ploadAs, pstoreAs, privateWord}
 use Rattle.isa.specs.Decode.{opcodes, decodeOf}
-use Rattle.isa.specs.Fits.{Range, _under_, _listed_, isIn, fieldOf, shiftOps, vectorOps, rangesOf, holdsAll, fitsOf, Holds, Fits}
-use Rattle.isa.proofs.Laws.{both, Rows, found, rows-append, every, rows-tested, fixed-at}
+use Rattle.isa.specs.Fits.{Range, _under_, _listed_, isIn, fieldOf, shiftOps, vectorOps, rangesOf, holdsAll, fitsOf, AllHold, Fits}
+use Rattle.isa.proofs.Laws.{both-true, Rows, found, rows-append, every-row, rows-tested, fixed-at}
 
 -- the fields are those of a word; funct7 is what is left
-pub record Small (c : Fields) : Type 0 where
+pub record SmallFields (c : Fields) : Type 0 where
   pub rd : c .rd < fieldLimit
   pub funct3 : c .funct3 < 8
   pub rs1 : c .rs1 < fieldLimit
   pub rs2 : c .rs2 < fieldLimit
 
-pub small : (w : ℕ) → Small (fieldsOf w)
+pub small : (w : ℕ) → SmallFields (fieldsOf w)
 small w = record { rd = omega arith; funct3 = omega arith; rs1 = omega arith; rs2 = omega arith }
 
 -- the facts of a list of ranges make its test true
@@ -39,7 +39,7 @@ true-of : (b : Bool) → T b → b ≡ true
 true-of true t = refl
 true-of false t = absurd t
 
-all-hold : (rs : List Range) → Holds rs → holdsAll rs ≡ true
+all-hold : (rs : List Range) → AllHold rs → holdsAll rs ≡ true
 all-hold [] h = refl
 all-hold ((n under k) ∷ rs) h = rw (lt-ltb n k (h .0)) (all-hold rs (h .1))
 all-hold ((o listed t) ∷ rs) h = rw (true-of (isIn o t) (h .0)) (all-hold rs (h .1))
@@ -53,15 +53,15 @@ an-amount true n h = h
 an-amount false n h = omega arith
 
 -- each op that has the form is in the list of those that have it
-abbrev formedIn : Source → Formed → ℕ → Bool
+abbrev formedIn : Source → OpForms → ℕ → Bool
 formedIn s f n = not (has s f) || isIn (f .op) (vectorOps s)
 
-plain-ops : (s : Source) → T (every (formedIn s) vectorTable)
+plain-ops : (s : Source) → T (every-row (formedIn s) vectorTable)
 plain-ops (From.V r) = tt
 plain-ops (From.X r) = tt
 plain-ops (From.I n) = tt
 
-multiply-ops : (s : Source) → T (every (formedIn s) multiplyTable)
+multiply-ops : (s : Source) → T (every-row (formedIn s) multiplyTable)
 multiply-ops (From.V r) = tt
 multiply-ops (From.X r) = tt
 multiply-ops (From.I n) = tt
@@ -70,93 +70,93 @@ where-formed : (i : Instr) (b l : Bool) → T (not b || l) → (T l → Fits i) 
 where-formed i true l t f = f t
 where-formed i false l t f = tt
 
-module _ (c : Fields) (h : Small c) (top : c .funct7 < 128) where
-  lui-fits : Fits (luiOf c)
+module _ (c : Fields) (h : SmallFields c) (top : c .funct7 < 128) where
+  lui-fits : Fits (luiWord c)
   lui-fits = (h .rd, (omega arith, tt))
 
-  auipc-fits : Fits (auipcOf c)
+  auipc-fits : Fits (auipcWord c)
   auipc-fits = (h .rd, (omega arith, tt))
 
-  jal-fits : Fits (jalOf c)
+  jal-fits : Fits (jalWord c)
   jal-fits = (h .rd, (omega arith, (omega arith, tt)))
 
-  jalr-fits : Fits (jalrOf c)
-  unfolding jalrOf
+  jalr-fits : Fits (jalrWord c)
+  unfolding jalrWord
   jalr-fits = found Fits (on c) I.Refused (c .funct3) jumps tt ((λ e. (h .rd, (h .rs1, (omega arith, tt)))), tt)
 
   -- a table of ops whose words all fit
   ops-fit :
-      {A : Type 0} (make : A → Fields → Instr) (k : ℕ) (t : List (Row A)) → T (every (λ a n. true) t) → ((a : A) → Fits (make a c))
-      → Rows Fits (on c) k (wordsOf make t)
+      {A : Type 0} (make : A → Fields → Instr) (k : ℕ) (t : List (Row A)) → T (every-row (λ a n. true) t) → ((a : A) → Fits (make a c))
+      → Rows Fits (on c) k (asWords make t)
   ops-fit make k t q f = rows-tested Fits make (λ a n. true) c k t q (λ a q. f a)
 
-  branch-fits : Fits (branchOf c)
-  unfolding branchOf
+  branch-fits : Fits (branchWord c)
+  unfolding branchWord
   branch-fits =
-      found Fits (on c) I.Refused (c .funct3) (wordsOf branchAs conditions) tt
+      found Fits (on c) I.Refused (c .funct3) (asWords branchAs conditions) tt
       (ops-fit branchAs (c .funct3) conditions tt (λ o. (h .rs1, (h .rs2, (omega arith, (omega arith, tt))))))
 
-  load-fits : Fits (loadOf c)
-  unfolding loadOf
+  load-fits : Fits (loadWord c)
+  unfolding loadWord
   load-fits =
-      found Fits (on c) I.Refused (c .funct3) (wordsOf loadAs loads) tt
+      found Fits (on c) I.Refused (c .funct3) (asWords loadAs loads) tt
       (ops-fit loadAs (c .funct3) loads tt (λ o. (h .rd, (h .rs1, (omega arith, tt)))))
 
-  store-fits : Fits (storeOf c)
-  unfolding storeOf
+  store-fits : Fits (storeWord c)
+  unfolding storeWord
   store-fits =
-      found Fits (on c) I.Refused (c .funct3) (wordsOf storeAs stores) tt
+      found Fits (on c) I.Refused (c .funct3) (asWords storeAs stores) tt
       (ops-fit storeAs (c .funct3) stores tt (λ o. (h .rs1, (h .rs2, (omega arith, tt)))))
 
   abbrev immOps : List (Row Op)
   immOps = immediates ++ shiftOps
 
-  immediates-fit : Rows Fits (on c) (c .funct3) (wordsOf immediateAs immediates)
+  immediates-fit : Rows Fits (on c) (c .funct3) (asWords immediateAs immediates)
   immediates-fit =
       rows-tested Fits immediateAs (λ o n. not (isIn o shiftOps) && isIn o immOps) c (c .funct3) immediates tt
       (λ o q.
-      let s = both (not (isIn o shiftOps)) (isIn o immOps) q in
+      let s = both-true (not (isIn o shiftOps)) (isIn o immOps) q in
       (h .rd, (h .rs1, (omega arith, (no-amount (isIn o shiftOps) _ (s .0), (s .1, tt))))))
 
-  shift-fits : (t : List (Row Op)) → T (every (λ o n. isIn o immOps) t) → Fits (shiftOf t c)
-  unfolding shiftOf
+  shift-fits : (t : List (Row Op)) → T (every-row (λ o n. isIn o immOps) t) → Fits (shiftWord t c)
+  unfolding shiftWord
   shift-fits t q =
-      found Fits (on c) I.Refused (c .funct7) (wordsOf shiftAs t) tt
+      found Fits (on c) I.Refused (c .funct7) (asWords shiftAs t) tt
       (rows-tested Fits shiftAs (λ o n. isIn o immOps) c (c .funct7) t q
       (λ o q. (h .rd, (h .rs1, (omega (arith, h .rs2), (an-amount (isIn o shiftOps) (c .rs2) (h .rs2), (q, tt)))))))
 
-  op-imm-fits : Fits (opImmOf c)
-  unfolding opImmOf
+  op-imm-fits : Fits (opImmWord c)
+  unfolding opImmWord
   op-imm-fits =
-      found Fits (on c) I.Refused (c .funct3) (wordsOf immediateAs immediates ++ shifts) tt
-      (rows-append Fits (on c) (c .funct3) (wordsOf immediateAs immediates) shifts immediates-fit
+      found Fits (on c) I.Refused (c .funct3) (asWords immediateAs immediates ++ shifts) tt
+      (rows-append Fits (on c) (c .funct3) (asWords immediateAs immediates) shifts immediates-fit
       ((λ e. shift-fits leftShifts tt), ((λ e. shift-fits rightShifts tt), tt)))
 
   abbrev regOps : List (Row Op)
   regOps = base ++ multiplies ++ alternates
 
-  by-funct3-fits : (t : List (Row Op)) → T (every (λ o n. isIn o regOps) t) → Fits (byFunct3 t c)
+  by-funct3-fits : (t : List (Row Op)) → T (every-row (λ o n. isIn o regOps) t) → Fits (byFunct3 t c)
   unfolding byFunct3
   by-funct3-fits t q =
-      found Fits (on c) I.Refused (c .funct3) (wordsOf opAs t) tt
+      found Fits (on c) I.Refused (c .funct3) (asWords opAs t) tt
       (rows-tested Fits opAs (λ o n. isIn o regOps) c (c .funct3) t q (λ o q. (h .rd, (h .rs1, (h .rs2, (q, tt))))))
 
-  op-fits : Fits (opOf c)
-  unfolding opOf
+  op-fits : Fits (opWord c)
+  unfolding opWord
   op-fits =
-      found Fits (on c) I.Refused (c .funct7) (wordsOf byFunct3 ops) tt
-      (rows-tested Fits byFunct3 (λ t n. every (λ o n. isIn o regOps) t) c (c .funct7) ops tt by-funct3-fits)
+      found Fits (on c) I.Refused (c .funct7) (asWords byFunct3 ops) tt
+      (rows-tested Fits byFunct3 (λ t n. every-row (λ o n. isIn o regOps) t) c (c .funct7) ops tt by-funct3-fits)
 
-  fence-fits : Fits (fenceOf c)
-  unfolding fenceOf
+  fence-fits : Fits (fenceWord c)
+  unfolding fenceWord
   fence-fits = found Fits (on c) I.Refused (c .funct3) fences tt ((λ e. (h .rd, (h .rs1, (omega arith, tt)))), tt)
 
-  csr-fits : Fits (csrOf c)
-  unfolding csrOf
+  csr-fits : Fits (csrWord c)
+  unfolding csrWord
   csr-fits =
-      found Fits (on c) I.Refused (c .funct3) (wordsOf csrAs csrs ++ wordsOf csrImmAs csrImmediates) tt
-      (rows-append Fits (on c) (c .funct3) (wordsOf csrAs csrs) (wordsOf csrImmAs csrImmediates)
-      (ops-fit csrAs (c .funct3) csrs tt (λ o. (h .rd, (h .rs1, (omega arith, tt)))))
+      found Fits (on c) I.Refused (c .funct3) (asWords csrAs csrOps ++ asWords csrImmAs csrImmediates) tt
+      (rows-append Fits (on c) (c .funct3) (asWords csrAs csrOps) (asWords csrImmAs csrImmediates)
+      (ops-fit csrAs (c .funct3) csrOps tt (λ o. (h .rd, (h .rs1, (omega arith, tt)))))
       (ops-fit csrImmAs (c .funct3) csrImmediates tt (λ o. (h .rd, (h .rs1, (omega arith, tt))))))
 
   -- a row of fixed fields: what is left where each has its value
@@ -165,17 +165,17 @@ module _ (c : Fields) (h : Small c) (top : c .funct7 < 128) where
 
   -- the vector words, by the last operand
   vector-rows :
-      (s : Source) (t : List (Row Formed)) → fieldOf s < fieldLimit → T (every (formedIn s) t)
-      → Rows Fits (on c) (funct6 c) (wordsOf (vectorAs s) t)
+      (s : Source) (t : List (Row OpForms)) → fieldOf s < fieldLimit → T (every-row (formedIn s) t)
+      → Rows Fits (on c) (funct6 c) (asWords (vectorAs s) t)
   vector-rows s t z q =
       rows-tested Fits (vectorAs s) (formedIn s) c (funct6 c) t q
       (λ f q. where-formed _ (has s f) (isIn (f .op) (vectorOps s)) q (λ l. (h .rd, (h .rs2, (z, (l, tt))))))
 
-  plain-fits : (s : Source) → fieldOf s < fieldLimit → Fits (plainOf s c)
-  unfolding plainOf
+  plain-fits : (s : Source) → fieldOf s < fieldLimit → Fits (plainWord s c)
+  unfolding plainWord
   plain-fits s z =
-      found Fits (on c) I.Refused (funct6 c) (moves s ++ wordsOf (vectorAs s) vectorTable) tt
-      (rows-append Fits (on c) (funct6 c) (moves s) (wordsOf (vectorAs s) vectorTable)
+      found Fits (on c) I.Refused (funct6 c) (moves s ++ asWords (vectorAs s) vectorTable) tt
+      (rows-append Fits (on c) (funct6 c) (moves s) (asWords (vectorAs s) vectorTable)
       ((λ e. fixed-fits (c .rs2) 0 (I.VMove (v (c .rd)) s) (h .rd, (z, tt))), tt)
       (vector-rows s vectorTable z (plain-ops s)))
 
@@ -187,17 +187,17 @@ module _ (c : Fields) (h : Small c) (top : c .funct7 < 128) where
   moves-m-fit (From.X r) = ((λ e. fixed-fits (c .rs2) 0 _ (h .rd, (h .rs1, tt))), tt)
   moves-m-fit (From.I n) = tt
 
-  multiply-fits : (s : Source) → fieldOf s < fieldLimit → Fits (multiplyOf s c)
-  unfolding multiplyOf
+  multiply-fits : (s : Source) → fieldOf s < fieldLimit → Fits (multiplyWord s c)
+  unfolding multiplyWord
   multiply-fits s z =
-      found Fits (on c) I.Refused (funct6 c) (movesM s ++ wordsOf (vectorAs s) multiplyTable) tt
-      (rows-append Fits (on c) (funct6 c) (movesM s) (wordsOf (vectorAs s) multiplyTable) (moves-m-fit s)
+      found Fits (on c) I.Refused (funct6 c) (movesM s ++ asWords (vectorAs s) multiplyTable) tt
+      (rows-append Fits (on c) (funct6 c) (movesM s) (asWords (vectorAs s) multiplyTable) (moves-m-fit s)
       (vector-rows s multiplyTable z (multiply-ops s)))
 
-  vector-fits : Fits (vectorOf c)
-  unfolding vectorOf operandsOf
+  vector-fits : Fits (vectorWord c)
+  unfolding vectorWord operandsWord
   vector-fits =
-      fixed-fits (vm c) 1 (operandsOf c)
+      fixed-fits (vm c) 1 (operandsWord c)
       (found Fits (on c) I.Refused (c .funct3) operands tt (
         (λ e. plain-fits (From.V (v (c .rs1))) (h .rs1)),
         (
@@ -212,28 +212,29 @@ module _ (c : Fields) (h : Small c) (top : c .funct7 < 128) where
         ),
       ))
 
-  join-fits : Fits (joinOf c)
-  unfolding joinOf
-  join-fits = fixed-fits (c .funct7 + c .rs2 + c .rs1 + c .rd) 0 I.Join tt
+  join-fits : Fits (joinWord c)
+  unfolding joinWord
+  join-fits =
+      fixed-fits (c .funct7) 0 _ (fixed-fits (c .rs2) 0 _ (fixed-fits (c .rs1) 0 _ (fixed-fits (c .rd) 0 I.Join tt)))
 
-  splits-fit : Fits (splitsOf c)
-  unfolding splitsOf
+  splits-fit : Fits (splitsWord c)
+  unfolding splitsWord
   splits-fit =
-      found Fits (on c) I.Refused (c .funct3) (wordsOf vbranchAs conditions ++ joins) tt
-      (rows-append Fits (on c) (c .funct3) (wordsOf vbranchAs conditions) joins
+      found Fits (on c) I.Refused (c .funct3) (asWords vbranchAs conditions ++ joins) tt
+      (rows-append Fits (on c) (c .funct3) (asWords vbranchAs conditions) joins
       (ops-fit vbranchAs (c .funct3) conditions tt (λ o. (h .rs1, (h .rs2, (omega arith, (omega arith, tt))))))
       ((λ e. join-fits), ((λ e. (h .rd, (h .rs1, (omega arith, tt)))), tt)))
 
-  end-prg-fits : Fits (endPrgOf c)
-  unfolding endPrgOf
-  end-prg-fits = fixed-fits (c .rs2 + c .rs1 + c .rd) 0 I.EndPrg tt
+  end-prg-fits : Fits (endPrgWord c)
+  unfolding endPrgWord
+  end-prg-fits = fixed-fits (c .rs2) 0 _ (fixed-fits (c .rs1) 0 _ (fixed-fits (c .rd) 0 I.EndPrg tt))
 
-  barrier-fits : Fits (barrierOf c)
-  unfolding barrierOf
-  barrier-fits = fixed-fits (c .rs2 + c .rd) 0 (I.Barrier (c .rs1)) (h .rs1, tt)
+  barrier-fits : Fits (barrierWord c)
+  unfolding barrierWord
+  barrier-fits = fixed-fits (c .rs2) 0 _ (fixed-fits (c .rd) 0 (I.Barrier (c .rs1)) (h .rs1, tt))
 
-  stop-fits : Fits (stopOf c)
-  unfolding stopOf
+  stop-fits : Fits (stopWord c)
+  unfolding stopWord
   stop-fits =
       fixed-fits (c .funct3) 0b100 _
       (found Fits (on c) I.Refused (c .funct7) stops tt ((λ e. end-prg-fits), ((λ e. barrier-fits), tt)))
@@ -244,16 +245,16 @@ module _ (c : Fields) (h : Small c) (top : c .funct7 < 128) where
       → ((o : StoreOp) → Fits (store o c)) → Fits (wordAt c (c .funct3) (accesses load store))
   accesses-fit load store l s =
       found Fits (on c) I.Refused (c .funct3) (accesses load store) tt
-      (rows-append Fits (on c) (c .funct3) (wordsOf load loads) (wordsOf store vstores) (ops-fit load (c .funct3) loads tt l)
+      (rows-append Fits (on c) (c .funct3) (asWords load loads) (asWords store vstores) (ops-fit load (c .funct3) loads tt l)
       (ops-fit store (c .funct3) vstores tt s))
 
-  lane-access-fits : Fits (laneAccessOf c)
-  unfolding laneAccessOf
+  lane-access-fits : Fits (laneAccessWord c)
+  unfolding laneAccessWord
   lane-access-fits =
       accesses-fit vloadAs vstoreAs (λ o. (h .rd, (h .rs1, (omega arith, tt)))) (λ o. (h .rs1, (h .rs2, (omega arith, tt))))
 
-  private-fits : Fits (privateOf c)
-  unfolding privateOf
+  private-fits : Fits (privateWord c)
+  unfolding privateWord
   private-fits =
       fixed-at Fits (c .funct7 / 64) 0 _ tt
       (λ e. accesses-fit ploadAs pstoreAs (λ o. (h .rd, (h .rs1, (omega arith, tt)))) (λ o. (h .rs1, (h .rs2, (omega arith, tt)))))

@@ -10,9 +10,9 @@ use Rattle.isa.specs.declared.Source.{Source}
 use Rattle.isa.specs.declared.Instr.{Instr}
 use Rattle.isa.specs.declared.Instr.the-variants.{Refused}
 use Rattle.isa.specs.Fields.{Fields}
-use Rattle.isa.specs.Table.{seek, Words, on, wordAt, wordsOf}
-use Rattle.isa.specs.Vector.{Formed, has, vectorAs}
-use Rattle.isa.specs.Kinds.{sourceOf, vectorWord}
+use Rattle.isa.specs.Table.{seek, Words, on, wordAt, asWords}
+use Rattle.isa.specs.Vector.{OpForms, has, vectorAs}
+use Rattle.isa.specs.Kinds.{sourceIn, laneOpWord}
 use Rattle.isa.proofs.Laws.{NoneFrom, past}
 
 module _ (c : Fields) (k : ℕ) where
@@ -24,10 +24,10 @@ module _ (c : Fields) (k : ℕ) where
   formed-row false form rest i m n t e = e t
 
   formed :
-      (t : List (Row Formed)) → T (seek (has (sourceOf c)) true k t)
-      → seek (λ f. vectorWord (f .op) c) Refused k t ≡ wordAt c k (wordsOf (vectorAs (sourceOf c)) t)
+      (t : List (Row OpForms)) → T (seek (has (sourceIn c)) true k t)
+      → seek (λ f. laneOpWord (f .op) c) Refused k t ≡ wordAt c k (asWords (vectorAs (sourceIn c)) t)
   formed [] q = refl
-  formed (r ∷ rs) q = formed-row (eqb k (r .code)) (has (sourceOf c) (r .is)) _ _ _ _ q (formed rs)
+  formed (r ∷ rs) q = formed-row (eqb k (r .code)) (has (sourceIn c) (r .is)) _ _ _ _ q (formed rs)
 
   unformed-row :
       (b form rest : Bool) (i n : Instr) → T (not (cond b form rest)) → (T (not rest) → Refused ≡ n)
@@ -37,23 +37,23 @@ module _ (c : Fields) (k : ℕ) where
   unformed-row false form rest i n t e = e t
 
   unformed :
-      (t : List (Row Formed)) → T (not (seek (has (sourceOf c)) false k t))
-      → Refused ≡ wordAt c k (wordsOf (vectorAs (sourceOf c)) t)
+      (t : List (Row OpForms)) → T (not (seek (has (sourceIn c)) false k t))
+      → Refused ≡ wordAt c k (asWords (vectorAs (sourceIn c)) t)
   unformed [] q = refl
-  unformed (r ∷ rs) q = unformed-row (eqb k (r .code)) (has (sourceOf c) (r .is)) _ _ _ q (unformed rs)
+  unformed (r ∷ rs) q = unformed-row (eqb k (r .code)) (has (sourceIn c) (r .is)) _ _ _ q (unformed rs)
 
   -- every row of the range has the form of the last operand, or none has it; u are the words before the table's
   module _
-      (s : Source) (q : sourceOf c ≡ s) (u : Words) (e : NoneFrom (Unit {0}) k u) (t : List (Row Formed)) (xs : List ℕ) (lo n : ℕ)
+      (s : Source) (q : sourceIn c ≡ s) (u : Words) (e : NoneFrom (Unit {0}) k u) (t : List (Row OpForms)) (xs : List ℕ) (lo n : ℕ)
       (a : lo ≤ k) (b : k < lo + n) (h : NoneOf (Unit {0}) k xs) where
     pub form-in :
         T (each (λ k. seek (has s) true k t) xs lo n)
-        → seek (λ f. vectorWord (f .op) c) Refused k t ≡ wordAt c k (u ++ wordsOf (vectorAs s) t)
+        → seek (λ f. laneOpWord (f .op) c) Refused k t ≡ wordAt c k (u ++ asWords (vectorAs s) t)
     form-in p =
         rw (← q) (formed t (rw (← q) at (in-range (λ k. seek (has s) true k t) xs lo n k p a b h)))
-        ∙ past (on c) Refused k u (wordsOf (vectorAs s) t) e
+        ∙ past (on c) Refused k u (asWords (vectorAs s) t) e
 
-    pub form-out : T (each (λ k. not (seek (has s) false k t)) xs lo n) → Refused ≡ wordAt c k (u ++ wordsOf (vectorAs s) t)
+    pub form-out : T (each (λ k. not (seek (has s) false k t)) xs lo n) → Refused ≡ wordAt c k (u ++ asWords (vectorAs s) t)
     form-out p =
         rw (← q) (unformed t (rw (← q) at (in-range (λ k. not (seek (has s) false k t)) xs lo n k p a b h)))
-        ∙ past (on c) Refused k u (wordsOf (vectorAs s) t) e
+        ∙ past (on c) Refused k u (asWords (vectorAs s) t) e

@@ -2,9 +2,9 @@
 use Prim.Native.Nat.{_<_, _^_}
 use native.Mathlib.Omega.{arith}
 use Rattle.isa.specs.Fields.{Fields, immB, immJ}
-use Rattle.isa.proofs.Decoded.{Small}
+use Rattle.isa.proofs.Decoded.{SmallFields}
 
-module _ (c : Fields) (h : Small c) (top : c .funct7 < 128) where
+module _ (c : Fields) (h : SmallFields c) (top : c .funct7 < 128) where
   pub immB-small : immB c < 2 ^ 13
   immB-small = omega arith
 

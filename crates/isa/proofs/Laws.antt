@@ -9,11 +9,11 @@ use Rattle.answer.specs.Rows.{Row}
 use Rattle.isa.specs.declared.Instr.{Instr}
 use Rattle.isa.specs.declared.Instr.the-variants as I
 use Rattle.isa.specs.Fields.{Fields}
-use Rattle.isa.specs.Table.{seek, on, wordsOf, fixed}
+use Rattle.isa.specs.Table.{seek, on, asWords, fixed}
 
-pub both : (a b : Bool) → T (a && b) → T a × T b
-both true b t = (tt, t)
-both false b t = absurd t
+pub both-true : (a b : Bool) → T (a && b) → T a × T b
+both-true true b t = (tt, t)
+both-true false b t = absurd t
 
 -- a fact of each row at which the seeking can stop
 abbrev pub Rows : {A B : Type 0} → (B → Type 0) → (A → B) → ℕ → List (Row A) → Type 0
@@ -38,17 +38,17 @@ rows-append P f k [] u h g = g
 rows-append P f k (r ∷ rs) u h g = (h .0, rows-append P f k rs u (h .1) g)
 
 -- a test of each row
-abbrev pub every : {A : Type 0} → (A → ℕ → Bool) → List (Row A) → Bool
-every p [] = true
-every p (r ∷ rs) = p (r .is) (r .code) && every p rs
+abbrev pub every-row : {A : Type 0} → (A → ℕ → Bool) → List (Row A) → Bool
+every-row p [] = true
+every-row p (r ∷ rs) = p (r .is) (r .code) && every-row p rs
 
 -- each row of a table passes the test, and what passes makes a word that has what is wanted
 pub rows-tested :
     {A : Type 0} (P : Instr → Type 0) (make : A → Fields → Instr) (p : A → ℕ → Bool) (c : Fields) (k : ℕ) (t : List (Row A))
-    → T (every p t) → ((a : A) → T (p a k) → P (make a c)) → Rows P (on c) k (wordsOf make t)
+    → T (every-row p t) → ((a : A) → T (p a k) → P (make a c)) → Rows P (on c) k (asWords make t)
 rows-tested P make p c k [] q h = tt
 rows-tested P make p c k (r ∷ rs) q h =
-    let s = both (p (r .is) (r .code)) (every p rs) q in
+    let s = both-true (p (r .is) (r .code)) (every-row p rs) q in
     ((λ e. h (r .is) (subst (λ (n : ℕ). T (p (r .is) n)) (sym e) (s .0))), rows-tested P make p c k rs (s .1) h)
 
 fixed-by : (P : Instr → Type 0) (n k : ℕ) (i : Instr) (b : Bool) → eqb n k ≡ b → P I.Refused → (n ≡ k → P i) → P (cond b i I.Refused)

@@ -12,7 +12,7 @@ use Rattle.isa.specs.declared.StoreOp.{StoreOp}
 use Rattle.isa.specs.declared.Instr.the-variants as I
 use Rattle.isa.specs.Fields.{fieldsOf, x as xOf, v as vOf, immI, immS, immB, immU, immJ, privateLoadOffset, privateStoreOffset}
 use Rattle.isa.specs.Number.{opAt}
-use Rattle.isa.specs.Kinds.{condOf, loadOpOf, storeOpOf, laneStoreOpOf, csrWordOf, sourceOf, vectorWord, vectorKinds, opLimit, rowOf, instrOf}
+use Rattle.isa.specs.Kinds.{condOf, loadOpOf, storeOpOf, laneStoreOpOf, anyCsrWord, sourceIn, laneOpWord, vectorKinds, opLimit, rowOf, instrOf}
 
 module _ (k w : ℕ) where
   pub lui-is : {r : XReg} {n : ℕ} → k ≡ 1 → r ≡ xOf (fieldsOf w .rd) → n ≡ immU (fieldsOf w) → instrOf k w ≡ I.Lui r n
@@ -62,7 +62,7 @@ module _ (k w : ℕ) where
   unfolding rowOf
   fence-is e ed ea en = rw (e, ed, ea, en)
 
-  pub csr-is : k ≡ 9 → instrOf k w ≡ csrWordOf (fieldsOf w)
+  pub csr-is : k ≡ 9 → instrOf k w ≡ anyCsrWord (fieldsOf w)
   unfolding rowOf
   csr-is e = rw e
 
@@ -136,11 +136,11 @@ module _ (k w : ℕ) where
   vid-is e er = rw (e, er)
 
   pub vmove-is :
-      {r : VReg} {s : Source} → k ≡ 49 → r ≡ vOf (fieldsOf w .rd) → s ≡ sourceOf (fieldsOf w)
+      {r : VReg} {s : Source} → k ≡ 49 → r ≡ vOf (fieldsOf w .rd) → s ≡ sourceIn (fieldsOf w)
       → instrOf k w ≡ I.VMove r s
   unfolding rowOf
   vmove-is e er es = rw (e, er, es)
 
-  pub vector-is : vectorKinds ≤ k → instrOf k w ≡ vectorWord (opAt (k % opLimit)) (fieldsOf w)
+  pub vector-is : vectorKinds ≤ k → instrOf k w ≡ laneOpWord (opAt (k % opLimit)) (fieldsOf w)
   unfolding rowOf
   vector-is l = rw (le-leb vectorKinds k l)

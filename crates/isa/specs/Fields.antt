@@ -35,27 +35,31 @@ x n = record { 0 = n }
 abbrev pub v : ℕ → VReg
 v n = record { 0 = n }
 
--- the immediates of the RISC-V manual's formats: I and S 12 bits, B 13, U 20, J 21
+-- the immediates of the RISC-V manual's formats. I: 12 bits, the word's 31 to 20
 abbrev pub immI : Fields → ℕ
-immI c = c .funct7 * 32 + c .rs2
+immI c = c .funct7 * 2 ^ 5 + c .rs2
 
+-- S: 12 bits, the word's 31 to 25 and 11 to 7
 abbrev pub immS : Fields → ℕ
-immS c = c .funct7 * 32 + c .rd
+immS c = c .funct7 * 2 ^ 5 + c .rd
 
+-- B: 13 bits, 12 to 1 being the word's 31, 7, 30 to 25 and 11 to 8
 abbrev pub immB : Fields → ℕ
-immB c = c .funct7 / 64 * 4096 + c .rd % 2 * 2048 + c .funct7 % 64 * 32 + c .rd / 2 * 2
+immB c = c .funct7 / 2 ^ 6 * 2 ^ 12 + c .rd % 2 * 2 ^ 11 + c .funct7 % 2 ^ 6 * 2 ^ 5 + c .rd / 2 * 2
 
+-- U: 20 bits, the word's 31 to 12
 abbrev pub immU : Fields → ℕ
-immU c = c .funct7 * 8192 + c .rs2 * 256 + c .rs1 * 8 + c .funct3
+immU c = c .funct7 * 2 ^ 13 + c .rs2 * 2 ^ 8 + c .rs1 * 2 ^ 3 + c .funct3
 
+-- J: 21 bits, 20 to 1 being the word's 31, 19 to 12, 20, 30 to 25 and 24 to 21
 abbrev pub immJ : Fields → ℕ
 immJ c =
-    c .funct7 / 64 * 1048576 + c .rs1 * 32768 + c .funct3 * 4096 + c .rs2 % 2 * 2048 + c .funct7 % 64 * 32
+    c .funct7 / 2 ^ 6 * 2 ^ 20 + c .rs1 * 2 ^ 15 + c .funct3 * 2 ^ 12 + c .rs2 % 2 * 2 ^ 11 + c .funct7 % 2 ^ 6 * 2 ^ 5
     + c .rs2 / 2 * 2
 
--- a private word's offset, 11 bits: those of I and S without bit 31
+-- a private word's offset, 11 bits: those of I and S without bit 31; a store's is a house rule
 abbrev pub privateLoadOffset : Fields → ℕ
-privateLoadOffset c = c .funct7 % 64 * 32 + c .rs2
+privateLoadOffset c = c .funct7 % 2 ^ 6 * 2 ^ 5 + c .rs2
 
 abbrev pub privateStoreOffset : Fields → ℕ
-privateStoreOffset c = c .funct7 % 64 * 32 + c .rd
+privateStoreOffset c = c .funct7 % 2 ^ 6 * 2 ^ 5 + c .rd

@@ -15,7 +15,7 @@ use Rattle.isa.specs.declared.Space.{Space}
 use Rattle.isa.specs.declared.Space.the-variants.{Plain, Private}
 use Rattle.isa.specs.Bounds.{scalarRegisters, vectorRegisters, fieldLimit}
 use Rattle.isa.specs.Scalar.{immediates, leftShifts, rightShifts, base, multiplies, alternates}
-use Rattle.isa.specs.Vector.{Formed, has, vectorTable, multiplyTable}
+use Rattle.isa.specs.Vector.{OpForms, has, vectorTable, multiplyTable}
 use Rattle.isa.specs.Number.{number}
 
 -- a number that stays under a bound, or an op that a table has
@@ -60,12 +60,12 @@ abbrev pub keep : Bool → Row Op → List (Row Op) → List (Row Op)
 keep true r rs = r ∷ rs
 keep false r rs = rs
 
-abbrev pub formed : Source → List (Row Formed) → List (Row Op)
-formed s [] = []
-formed s (r ∷ rs) = keep (has s (r .is)) (r .code ⇒ r .is .op) (formed s rs)
+abbrev pub withForm : Source → List (Row OpForms) → List (Row Op)
+withForm s [] = []
+withForm s (r ∷ rs) = keep (has s (r .is)) (r .code ⇒ r .is .op) (withForm s rs)
 
 abbrev pub vectorOps : Source → List (Row Op)
-vectorOps s = formed s vectorTable ++ formed s multiplyTable
+vectorOps s = withForm s vectorTable ++ withForm s multiplyTable
 
 abbrev pub rangesOf : Instr → List Range
 rangesOf I.Refused = []
@@ -104,10 +104,10 @@ abbrev pub fitsOf : Instr → Bool
 fitsOf i = holdsAll (rangesOf i)
 
 -- the facts: of `Lui d n`, (d .0 < scalarRegisters) × ((n < 2 ^ 20) × Unit)
-abbrev pub Holds : List Range → Type 0
-Holds [] = Unit {0}
-Holds (n under k ∷ rs) = (n < k) × Holds rs
-Holds (o listed t ∷ rs) = T (isIn o t) × Holds rs
+abbrev pub AllHold : List Range → Type 0
+AllHold [] = Unit {0}
+AllHold (n under k ∷ rs) = (n < k) × AllHold rs
+AllHold (o listed t ∷ rs) = T (isIn o t) × AllHold rs
 
 abbrev pub Fits : Instr → Type 0
-Fits i = Holds (rangesOf i)
+Fits i = AllHold (rangesOf i)

@@ -18,45 +18,45 @@ use Rattle.isa.specs.declared.CsrOp.the-variants as R
 use Rattle.isa.specs.declared.Instr.{Instr}
 use Rattle.isa.specs.declared.Instr.the-variants as I
 use Rattle.isa.specs.Fields.{Fields, x, v, fieldsOf, immI}
-use Rattle.isa.specs.Table.{pick, Words, wordAt}
-use Rattle.isa.specs.Scalar.{luiOf, auipcOf, jalOf, conditions, branchAs, loads, loadAs, stores, storeAs, immediateAs, shiftAs, opAs, csrs, csrAs, csrImmediates, csrImmAs}
+use Rattle.isa.specs.Table.{pickRow, Words, wordAt}
+use Rattle.isa.specs.Scalar.{luiWord, auipcWord, jalWord, conditions, branchAs, loads, loadAs, stores, storeAs, immediateAs, shiftAs, opAs, csrOps, csrAs, csrImmediates, csrImmAs}
 use Rattle.isa.specs.Vector.{fromV, fromX, fromI}
 use Rattle.isa.specs.Ventus.{vbranchAs, setRpcAs, vstores, vloadAs, vstoreAs, ploadAs, pstoreAs}
 use Rattle.isa.specs.Number.{opAt}
 
 -- what funct3 says within a kind; the last row where it says nothing
 unfoldable pub condOf : Fields → Cond
-condOf c = pick C.Geu (c .funct3) conditions
+condOf c = pickRow C.Geu (c .funct3) conditions
 
 unfoldable pub loadOpOf : Fields → LoadOp
-loadOpOf c = pick L.Hu (c .funct3) loads
+loadOpOf c = pickRow L.Hu (c .funct3) loads
 
 unfoldable pub storeOpOf : Fields → StoreOp
-storeOpOf c = pick S.W (c .funct3) stores
+storeOpOf c = pickRow S.W (c .funct3) stores
 
 unfoldable pub laneStoreOpOf : Fields → StoreOp
-laneStoreOpOf c = pick S.W (c .funct3) vstores
+laneStoreOpOf c = pickRow S.W (c .funct3) vstores
 
 -- a CSR word: below 100 its operand is a register, else rs1 itself
 unfoldable pub csrOpOf : Fields → CsrOp
-csrOpOf c = cond (ltb (c .funct3) 0b100) (pick R.Rc (c .funct3) csrs) (pick R.Rc (c .funct3) csrImmediates)
+csrOpOf c = cond (ltb (c .funct3) 0b100) (pickRow R.Rc (c .funct3) csrOps) (pickRow R.Rc (c .funct3) csrImmediates)
 
-unfoldable pub csrWordOf : Fields → Instr
-csrWordOf c = cond (ltb (c .funct3) 0b100) (csrAs (csrOpOf c) c) (csrImmAs (csrOpOf c) c)
+unfoldable pub anyCsrWord : Fields → Instr
+anyCsrWord c = cond (ltb (c .funct3) 0b100) (csrAs (csrOpOf c) c) (csrImmAs (csrOpOf c) c)
 
 -- a vector word's last operand: VV 000 and 010, VI 011, else VX
-unfoldable pub sourceOf : Fields → Source
-sourceOf c = pick (fromX c) (c .funct3) (0b000 ⇒ fromV c ∷ 0b010 ⇒ fromV c ∷ 0b011 ⇒ fromI c ∷ [])
+unfoldable pub sourceIn : Fields → Source
+sourceIn c = pickRow (fromX c) (c .funct3) (0b000 ⇒ fromV c ∷ 0b010 ⇒ fromV c ∷ 0b011 ⇒ fromI c ∷ [])
 
-abbrev pub vectorWord : Op → Fields → Instr
-vectorWord o c = I.Vector o (record { vd = v (c .rd); vs2 = v (c .rs2); src = sourceOf c })
+abbrev pub laneOpWord : Op → Fields → Instr
+laneOpWord o c = I.Vector o (record { vd = v (c .rd); vs2 = v (c .rs2); src = sourceIn c })
 
 -- the numbers are those of src/kinds.rt
 abbrev pub scalarGroups : Words
 scalarGroups =
-    1 ⇒ luiOf ∷ 2 ⇒ auipcOf ∷ 3 ⇒ jalOf ∷ 4 ⇒ (λ c. I.Jalr (x (c .rd)) (x (c .rs1)) (immI c))
+    1 ⇒ luiWord ∷ 2 ⇒ auipcWord ∷ 3 ⇒ jalWord ∷ 4 ⇒ (λ c. I.Jalr (x (c .rd)) (x (c .rs1)) (immI c))
     ∷ 5 ⇒ (λ c. branchAs (condOf c) c) ∷ 6 ⇒ (λ c. loadAs (loadOpOf c) c) ∷ 7 ⇒ (λ c. storeAs (storeOpOf c) c)
-    ∷ 8 ⇒ (λ c. I.Fence (c .rd) (c .rs1) (immI c)) ∷ 9 ⇒ csrWordOf ∷ []
+    ∷ 8 ⇒ (λ c. I.Fence (c .rd) (c .rs1) (immI c)) ∷ 9 ⇒ anyCsrWord ∷ []
 
 abbrev pub laneGroups : Words
 laneGroups =
@@ -65,7 +65,7 @@ laneGroups =
     ∷ 14 ⇒ (λ c. ploadAs (loadOpOf c) c) ∷ 15 ⇒ (λ c. pstoreAs (laneStoreOpOf c) c)
     ∷ 43 ⇒ (λ c. I.Join) ∷ 44 ⇒ (λ c. I.EndPrg) ∷ 45 ⇒ (λ c. I.Barrier (c .rs1))
     ∷ 46 ⇒ (λ c. I.VMoveXS (x (c .rd)) (v (c .rs2))) ∷ 47 ⇒ (λ c. I.VMoveSX (v (c .rd)) (x (c .rs1)))
-    ∷ 48 ⇒ (λ c. I.Vid (v (c .rd))) ∷ 49 ⇒ (λ c. I.VMove (v (c .rd)) (sourceOf c)) ∷ []
+    ∷ 48 ⇒ (λ c. I.Vid (v (c .rd))) ∷ 49 ⇒ (λ c. I.VMove (v (c .rd)) (sourceIn c)) ∷ []
 
 abbrev pub groups : Words
 groups = scalarGroups ++ laneGroups
@@ -97,7 +97,7 @@ opLimit = 32
 
 unfoldable pub rowOf : ℕ → Fields → Instr
 rowOf k c =
-    cond (leb vectorKinds k) (vectorWord (opAt (k % opLimit)) c) (wordAt c k (groups ++ ofRegisters ++ ofImmediates))
+    cond (leb vectorKinds k) (laneOpWord (opAt (k % opLimit)) c) (wordAt c k (groups ++ ofRegisters ++ ofImmediates))
 
 abbrev pub instrOf : ℕ → ℕ → Instr
 instrOf k w = rowOf k (fieldsOf w)

@@ -4,7 +4,7 @@ use mathlib.Core.List.{List, [], _∷_}
 use Rattle.answer.specs.Rows.{Row, _⇒_}
 use Rattle.word.specs.declared.Op.{Op}
 use Rattle.word.specs.declared.Op.the-variants as O
-use Rattle.isa.specs.Table.{pick}
+use Rattle.isa.specs.Table.{pickRow}
 
 abbrev pub number : Op → ℕ
 number O.Add = 0
@@ -36,18 +36,17 @@ number O.Sle = 25
 number O.Sleu = 26
 number O.Sgt = 27
 number O.Sgtu = 28
-number O.Move = 29
 
 abbrev pub everyOp : List Op
 everyOp =
     O.Add ∷ O.Sub ∷ O.Rsub ∷ O.Sll ∷ O.Srl ∷ O.Sra ∷ O.Slt ∷ O.Sltu ∷ O.And ∷ O.Or ∷ O.Xor
     ∷ O.Mul ∷ O.Mulh ∷ O.Mulhsu ∷ O.Mulhu ∷ O.Div ∷ O.Divu ∷ O.Rem ∷ O.Remu ∷ O.Min ∷ O.Minu ∷ O.Max ∷ O.Maxu
-    ∷ O.Seq ∷ O.Sne ∷ O.Sle ∷ O.Sleu ∷ O.Sgt ∷ O.Sgtu ∷ O.Move ∷ []
+    ∷ O.Seq ∷ O.Sne ∷ O.Sle ∷ O.Sleu ∷ O.Sgt ∷ O.Sgtu ∷ []
 
-abbrev pub numbered : List Op → List (Row Op)
-numbered [] = []
-numbered (o ∷ os) = number o ⇒ o ∷ numbered os
+abbrev pub byNumber : List Op → List (Row Op)
+byNumber [] = []
+byNumber (o ∷ os) = number o ⇒ o ∷ byNumber os
 
 -- the last op where no op has the number
 unfoldable pub opAt : ℕ → Op
-opAt n = pick O.Move n (numbered everyOp)
+opAt n = pickRow O.Sgtu n (byNumber everyOp)

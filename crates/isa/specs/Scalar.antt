@@ -14,24 +14,24 @@ use Rattle.isa.specs.declared.StoreOp.the-variants as S
 use Rattle.isa.specs.declared.CsrOp.{CsrOp}
 use Rattle.isa.specs.declared.CsrOp.the-variants as R
 use Rattle.isa.specs.Fields.{Fields, x, immI, immS, immB, immU, immJ}
-use Rattle.isa.specs.Table.{Words, wordAt, wordsOf}
+use Rattle.isa.specs.Table.{Words, wordAt, asWords}
 
 -- by opcode alone
-abbrev pub luiOf : Fields → Instr
-luiOf c = I.Lui (x (c .rd)) (immU c)
+abbrev pub luiWord : Fields → Instr
+luiWord c = I.Lui (x (c .rd)) (immU c)
 
-abbrev pub auipcOf : Fields → Instr
-auipcOf c = I.Auipc (x (c .rd)) (immU c)
+abbrev pub auipcWord : Fields → Instr
+auipcWord c = I.Auipc (x (c .rd)) (immU c)
 
-abbrev pub jalOf : Fields → Instr
-jalOf c = I.Jal (x (c .rd)) (immJ c)
+abbrev pub jalWord : Fields → Instr
+jalWord c = I.Jal (x (c .rd)) (immJ c)
 
 -- by funct3
 abbrev pub jumps : Words
 jumps = 0b000 ⇒ (λ c. I.Jalr (x (c .rd)) (x (c .rs1)) (immI c)) ∷ []
 
-unfoldable pub jalrOf : Fields → Instr
-jalrOf c = wordAt c (c .funct3) jumps
+unfoldable pub jalrWord : Fields → Instr
+jalrWord c = wordAt c (c .funct3) jumps
 
 abbrev pub conditions : List (Row Cond)
 conditions =
@@ -40,8 +40,8 @@ conditions =
 abbrev pub branchAs : Cond → Fields → Instr
 branchAs o c = I.Branch o (x (c .rs1)) (x (c .rs2)) (immB c)
 
-unfoldable pub branchOf : Fields → Instr
-branchOf c = wordAt c (c .funct3) (wordsOf branchAs conditions)
+unfoldable pub branchWord : Fields → Instr
+branchWord c = wordAt c (c .funct3) (asWords branchAs conditions)
 
 abbrev pub loads : List (Row LoadOp)
 loads = 0b000 ⇒ L.B ∷ 0b001 ⇒ L.H ∷ 0b010 ⇒ L.W ∷ 0b100 ⇒ L.Bu ∷ 0b101 ⇒ L.Hu ∷ []
@@ -49,8 +49,8 @@ loads = 0b000 ⇒ L.B ∷ 0b001 ⇒ L.H ∷ 0b010 ⇒ L.W ∷ 0b100 ⇒ L.Bu ∷
 abbrev pub loadAs : LoadOp → Fields → Instr
 loadAs o c = I.Load o (x (c .rd)) (x (c .rs1)) (immI c)
 
-unfoldable pub loadOf : Fields → Instr
-loadOf c = wordAt c (c .funct3) (wordsOf loadAs loads)
+unfoldable pub loadWord : Fields → Instr
+loadWord c = wordAt c (c .funct3) (asWords loadAs loads)
 
 abbrev pub stores : List (Row StoreOp)
 stores = 0b000 ⇒ S.B ∷ 0b001 ⇒ S.H ∷ 0b010 ⇒ S.W ∷ []
@@ -58,8 +58,8 @@ stores = 0b000 ⇒ S.B ∷ 0b001 ⇒ S.H ∷ 0b010 ⇒ S.W ∷ []
 abbrev pub storeAs : StoreOp → Fields → Instr
 storeAs o c = I.Store o (x (c .rs1)) (x (c .rs2)) (immS c)
 
-unfoldable pub storeOf : Fields → Instr
-storeOf c = wordAt c (c .funct3) (wordsOf storeAs stores)
+unfoldable pub storeWord : Fields → Instr
+storeWord c = wordAt c (c .funct3) (asWords storeAs stores)
 
 -- OP-IMM: by funct3; a shift by funct7 too, its amount in rs2's place
 abbrev pub immediates : List (Row Op)
@@ -78,14 +78,14 @@ immediateAs o c = I.OpImm o (x (c .rd)) (x (c .rs1)) (immI c)
 abbrev pub shiftAs : Op → Fields → Instr
 shiftAs o c = I.OpImm o (x (c .rd)) (x (c .rs1)) (c .rs2)
 
-unfoldable pub shiftOf : List (Row Op) → Fields → Instr
-shiftOf t c = wordAt c (c .funct7) (wordsOf shiftAs t)
+unfoldable pub shiftWord : List (Row Op) → Fields → Instr
+shiftWord t c = wordAt c (c .funct7) (asWords shiftAs t)
 
 abbrev pub shifts : Words
-shifts = 0b001 ⇒ shiftOf leftShifts ∷ 0b101 ⇒ shiftOf rightShifts ∷ []
+shifts = 0b001 ⇒ shiftWord leftShifts ∷ 0b101 ⇒ shiftWord rightShifts ∷ []
 
-unfoldable pub opImmOf : Fields → Instr
-opImmOf c = wordAt c (c .funct3) (wordsOf immediateAs immediates ++ shifts)
+unfoldable pub opImmWord : Fields → Instr
+opImmWord c = wordAt c (c .funct3) (asWords immediateAs immediates ++ shifts)
 
 -- OP: by funct7, then by funct3
 abbrev pub base : List (Row Op)
@@ -105,23 +105,23 @@ abbrev pub opAs : Op → Fields → Instr
 opAs o c = I.OpReg o (x (c .rd)) (x (c .rs1)) (x (c .rs2))
 
 unfoldable pub byFunct3 : List (Row Op) → Fields → Instr
-byFunct3 t c = wordAt c (c .funct3) (wordsOf opAs t)
+byFunct3 t c = wordAt c (c .funct3) (asWords opAs t)
 
 abbrev pub ops : List (Row (List (Row Op)))
 ops = 0b0000000 ⇒ base ∷ 0b0000001 ⇒ multiplies ∷ 0b0100000 ⇒ alternates ∷ []
 
-unfoldable pub opOf : Fields → Instr
-opOf c = wordAt c (c .funct7) (wordsOf byFunct3 ops)
+unfoldable pub opWord : Fields → Instr
+opWord c = wordAt c (c .funct7) (asWords byFunct3 ops)
 
 -- FENCE: its other fields are ignored, and kept
 abbrev pub fences : Words
 fences = 0b000 ⇒ (λ c. I.Fence (c .rd) (c .rs1) (immI c)) ∷ []
 
-unfoldable pub fenceOf : Fields → Instr
-fenceOf c = wordAt c (c .funct3) fences
+unfoldable pub fenceWord : Fields → Instr
+fenceWord c = wordAt c (c .funct3) fences
 
-abbrev pub csrs : List (Row CsrOp)
-csrs = 0b001 ⇒ R.Rw ∷ 0b010 ⇒ R.Rs ∷ 0b011 ⇒ R.Rc ∷ []
+abbrev pub csrOps : List (Row CsrOp)
+csrOps = 0b001 ⇒ R.Rw ∷ 0b010 ⇒ R.Rs ∷ 0b011 ⇒ R.Rc ∷ []
 
 abbrev pub csrImmediates : List (Row CsrOp)
 csrImmediates = 0b101 ⇒ R.Rw ∷ 0b110 ⇒ R.Rs ∷ 0b111 ⇒ R.Rc ∷ []
@@ -132,5 +132,5 @@ csrAs o c = I.Csr o (x (c .rd)) (x (c .rs1)) (immI c)
 abbrev pub csrImmAs : CsrOp → Fields → Instr
 csrImmAs o c = I.CsrImm o (x (c .rd)) (c .rs1) (immI c)
 
-unfoldable pub csrOf : Fields → Instr
-csrOf c = wordAt c (c .funct3) (wordsOf csrAs csrs ++ wordsOf csrImmAs csrImmediates)
+unfoldable pub csrWord : Fields → Instr
+csrWord c = wordAt c (c .funct3) (asWords csrAs csrOps ++ asWords csrImmAs csrImmediates)

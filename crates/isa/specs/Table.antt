@@ -14,8 +14,8 @@ seek f other k [] = other
 seek f other k (r ∷ rs) = cond (eqb k (r .code)) (f (r .is)) (seek f other k rs)
 
 -- what a table has at a code, or z where it has no such row
-abbrev pub pick : {A : Type 0} → A → ℕ → List (Row A) → A
-pick z k t = seek (λ a. a) z k t
+abbrev pub pickRow : {A : Type 0} → A → ℕ → List (Row A) → A
+pickRow z k t = seek (λ a. a) z k t
 
 -- words by a code: each row makes an instruction of the other fields
 abbrev pub Words : Type 0
@@ -29,9 +29,9 @@ abbrev pub wordAt : Fields → ℕ → Words → Instr
 wordAt c k t = seek (on c) Refused k t
 
 -- the words of a table of ops
-abbrev pub wordsOf : {A : Type 0} → (A → Fields → Instr) → List (Row A) → Words
-wordsOf make [] = []
-wordsOf make (r ∷ rs) = r .code ⇒ make (r .is) ∷ wordsOf make rs
+abbrev pub asWords : {A : Type 0} → (A → Fields → Instr) → List (Row A) → Words
+asWords make [] = []
+asWords make (r ∷ rs) = r .code ⇒ make (r .is) ∷ asWords make rs
 
 -- the instruction where the fixed field n has the value it must have, else Refused
 abbrev pub fixed : ℕ → ℕ → Instr → Instr

@@ -5,7 +5,7 @@ ghost use Rattle.isa.specs.Bounds.{scalarRegisters, vectorRegisters, fie
 ghost use Rattle.isa.specs.Fields.{fieldsOf, x as xOf, v as vOf, immI, immS, immB, immU, immJ};
 ghost use Rattle.isa.specs.Fields.{privateLoadOffset, privateStoreOffset};
 ghost use Rattle.isa.specs.Number.{opAt};
-ghost use Rattle.isa.specs.Kinds.{condOf, loadOpOf, storeOpOf, laneStoreOpOf, csrOpOf, sourceOf};
+ghost use Rattle.isa.specs.Kinds.{condOf, loadOpOf, storeOpOf, laneStoreOpOf, csrOpOf, sourceIn};
 use crate::CsrOp;
 use crate::LoadOp;
 use crate::Source;
@@ -198,7 +198,7 @@ pub fn csr_op(w: u32) -> CsrOp
 
 // A vector word's last operand.
 pub fn source(w: u32) -> Source
-    ensures { λ r. ⌜ r ≡ sourceOf (fieldsOf w) ⌝ }
+    ensures { λ r. ⌜ r ≡ sourceIn (fieldsOf w) ⌝ }
 {
     let funct3 = w / 4096 % 8;
     match funct3 {
@@ -242,7 +242,6 @@ pub fn op_at(n: u32) -> Op
         25 => Op::Sle,
         26 => Op::Sleu,
         27 => Op::Sgt,
-        28 => Op::Sgtu,
-        _ => Op::Move,
+        _ => Op::Sgtu,
     }
 }

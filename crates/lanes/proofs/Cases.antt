@@ -5,6 +5,6 @@ use Prim.Native.Nat.{_+_}
 use Rattle.lanes.specs.Mask.{bitAt, bit}
 use Rattle.lanes.specs.Lanes.{eachLane, allLanes, uniformOf}
 
-alone : uniformOf 2 (bit 1) (λ l. 5 + l) ≡ true
+alone : uniformOf 2 (bit 1) (λ l. 5 + l .0) ≡ true
 unfolding eachLane allLanes bitAt
 alone = refl

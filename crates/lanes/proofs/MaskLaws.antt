@@ -16,7 +16,8 @@ use borrow.Author.Tests.{eqb-true, eqb-false, ne-eqb}
 use Rattle.word.specs.Word.{holdsOf}
 use Rattle.word.specs.declared.Cond.{Cond}
 use Rattle.isa.specs.declared.VReg.{VReg}
-use Rattle.lanes.specs.Mask.{bitAt, bit}
+use Rattle.lanes.specs.declared.Lane.{Lane}
+use Rattle.lanes.specs.Mask.{lane, bitAt, bit}
 use Rattle.lanes.specs.Lanes.{stepIf, eachLane, maskOf, allLanes, laneOf, wantsOf}
 use Rattle.lanes.proofs.Laws.{each-grows, each-same}
 
@@ -30,9 +31,9 @@ unfolding bitAt
 bit-suc l m = sym (ap (λ (x : ℕ). x % 2) (shr-shr m 1 l ∙ ap (λ (k : ℕ). m / 2 ^ k) (one-add l)))
 
 -- no lane at or above n
-pub bit-above : (m n l : ℕ) → m < 2 ^ n → n ≤ l → bit m l ≡ false
+pub bit-above : (m n : ℕ) (l : Lane) → m < 2 ^ n → n ≤ l .0 → bit m l ≡ false
 unfolding bitAt
-bit-above m n l h k = rw (div-eq-of-lt (lt-of-lt-of-le h (pow-mono {i = n} {j = l} k)))
+bit-above m n l h k = rw (div-eq-of-lt (lt-of-lt-of-le h (pow-mono {i = n} {j = l .0} k)))
 
 -- ---- a mask m cut in two: e inside m, and m - e, the rest
 record Halved (e m : ℕ) : Type 0 where
@@ -69,11 +70,11 @@ pub ones-pos : (m : ℕ) → 0 < m → 0 < ones m
 ones-pos = bin-ind (λ (m : ℕ). 0 < m → 0 < ones m) (λ h. omega arith) (λ m ih h. ⊎-elim (λ z. omega (arith, ones-step m)) (λ p. omega (arith, ones-step m, ih p)) (eq-zero-or-pos (m / 2)))
 
 -- ---- the mask of the lanes that a test picks
-pub mask-lt : (on : ℕ → Bool) (n : ℕ) → maskOf n on < 2 ^ n
+pub mask-lt : (on : Lane → Bool) (n : ℕ) → maskOf n on < 2 ^ n
 mask-lt on n = each-grows on _ 0 (λ i m. m < 2 ^ i) (le-refl 1) n (λ l m h t q. rw pow-suc (omega arith)) (λ l m h t q. rw pow-suc (omega arith))
 
-pub mask-same : (p q : ℕ → Bool) (n : ℕ) → ((l : ℕ) → l < n → p l ≡ q l) → maskOf n p ≡ maskOf n q
-mask-same p q n e = each-same p q (λ k z. z + 2 ^ k) (λ k z. z + 2 ^ k) 0 n e (λ l u h t. refl)
+pub mask-same : (p q : Lane → Bool) (n : ℕ) → ((l : Lane) → l .0 < n → p l ≡ q l) → maskOf n p ≡ maskOf n q
+mask-same p q n e = each-same p q (λ k z. z + 2 ^ k .0) (λ k z. z + 2 ^ k .0) 0 n e (λ l u h t. refl)
 
 digit : (d p r : ℕ) → d < 2 → (t : Bool) → eqb d 1 ≡ t → d * p + r ≡ stepIf t (λ (m : ℕ). m + p) r
 digit d p r h true e = rw (eqb-true d 1 e) (rw one-mul (omega arith))
@@ -86,8 +87,8 @@ unfolding eachLane bitAt
 mask-mod m zero = mod-one m
 mask-mod m (suc n) =
     ap (λ (k : ℕ). m % 2 ^ k) (sym (one-add n)) ∙ mod-pow-add m 1 n
-    ∙ digit (m / 2 ^ n % 2) (2 ^ n) (m % 2 ^ n) (omega arith) (bit m n) refl
-    ∙ ap (stepIf (bit m n) (λ (k : ℕ). k + 2 ^ n)) (mask-mod m n)
+    ∙ digit (m / 2 ^ n % 2) (2 ^ n) (m % 2 ^ n) (omega arith) (bit m (lane n)) refl
+    ∙ ap (stepIf (bit m (lane n)) (λ (k : ℕ). k + 2 ^ n)) (mask-mod m n)
 
 -- a mask of n lanes is the mask of its own
 pub mask-self : (m n : ℕ) → m < 2 ^ n → m ≡ maskOf n (bit m)
@@ -110,35 +111,35 @@ digit-and true false = refl
 digit-and false true = refl
 digit-and false false = refl
 
-pub masks-and : (p q : ℕ → Bool) (n : ℕ) → bitAnd (maskOf n p) (maskOf n q) ≡ maskOf n (λ l. q l && p l)
+pub masks-and : (p q : Lane → Bool) (n : ℕ) → bitAnd (maskOf n p) (maskOf n q) ≡ maskOf n (λ l. q l && p l)
 unfolding eachLane
 masks-and p q zero = refl
 masks-and p q (suc n) =
-    ap₂ bitAnd (step-digit (p n) (2 ^ n) (maskOf n p)) (step-digit (q n) (2 ^ n) (maskOf n q))
-    ∙ and-block n (digitOf (p n)) (digitOf (q n)) (maskOf n p) (maskOf n q) (mask-lt p n) (mask-lt q n)
-    ∙ ap₂ (λ (x y : ℕ). x * 2 ^ n + y) (digit-and (p n) (q n)) (masks-and p q n)
-    ∙ sym (step-digit (q n && p n) (2 ^ n) (maskOf n (λ l. q l && p l)))
+    ap₂ bitAnd (step-digit (p (lane n)) (2 ^ n) (maskOf n p)) (step-digit (q (lane n)) (2 ^ n) (maskOf n q))
+    ∙ and-block n (digitOf (p (lane n))) (digitOf (q (lane n))) (maskOf n p) (maskOf n q) (mask-lt p n) (mask-lt q n)
+    ∙ ap₂ (λ (x y : ℕ). x * 2 ^ n + y) (digit-and (p (lane n)) (q (lane n))) (masks-and p q n)
+    ∙ sym (step-digit (q (lane n) && p (lane n)) (2 ^ n) (maskOf n (λ l. q l && p l)))
 
-pub and-bits : (p : ℕ → Bool) (n m : ℕ) → m < 2 ^ n → bitAnd (maskOf n p) m ≡ maskOf n (λ l. bit m l && p l)
+pub and-bits : (p : Lane → Bool) (n m : ℕ) → m < 2 ^ n → bitAnd (maskOf n p) m ≡ maskOf n (λ l. bit m l && p l)
 and-bits p n m h = ap (bitAnd (maskOf n p)) (mask-self m n h) ∙ masks-and p (bit m) n
 
 -- a mask is 0 just where the test holds in no lane
-pub mask-zero : (q : ℕ → Bool) (n : ℕ) → eqb (maskOf n q) 0 ≡ allLanes n (λ l. not (q l))
+pub mask-zero : (q : Lane → Bool) (n : ℕ) → eqb (maskOf n q) 0 ≡ allLanes n (λ l. not (q l))
 unfolding eachLane allLanes
 mask-zero q zero = refl
-mask-zero q (suc n) = turn (q n) (maskOf n q) (allLanes n (λ l. not (q l))) (mask-zero q n)
+mask-zero q (suc n) = turn (q (lane n)) (maskOf n q) (allLanes n (λ l. not (q l))) (mask-zero q n)
   where
     turn : (t : Bool) (m : ℕ) (a : Bool) → eqb m 0 ≡ a → eqb (stepIf t (λ (k : ℕ). k + 2 ^ n) m) 0 ≡ (a && not t)
     turn true m a e = ne-eqb (m + 2 ^ n) 0 (λ z. omega (arith, pow-pos n)) ∙ sym (and-false a)
     turn false m a e = e ∙ sym (and-true a)
 
 -- ---- the lanes of m where a test holds, e, and the rest, m - e
-module _ (m n : ℕ) (p : ℕ → Bool) (h : m < 2 ^ n) where
+module _ (m n : ℕ) (p : Lane → Bool) (h : m < 2 ^ n) where
   pub part-in : bitAnd (maskOf n (λ l. bit m l && p l)) m ≡ maskOf n (λ l. bit m l && p l)
   part-in = and-bits (λ l. bit m l && p l) n m h ∙ mask-same (λ l. bit m l && (bit m l && p l)) (λ l. bit m l && p l) n (λ l k. and-self-left (bit m l) (p l))
 
 -- VBRANCH's else mask looks at the lanes of m alone
-pub wants-only : (m n : ℕ) (c : Cond) (a b : VReg) (v w : List ℕ) → ((l : ℕ) → l < n → bit m l ≡ true → (r : VReg) → laneOf v r l ≡ laneOf w r l)
+pub wants-only : (m n : ℕ) (c : Cond) (a b : VReg) (v w : List ℕ) → ((l : Lane) → l .0 < n → bit m l ≡ true → (r : VReg) → laneOf v r l ≡ laneOf w r l)
     → maskOf n (wantsOf v m c a b) ≡ maskOf n (wantsOf w m c a b)
 wants-only m n c a b v w same = mask-same (wantsOf v m c a b) (wantsOf w m c a b) n (λ l h. at-on (bit m l) (holdsOf c (laneOf v a l) (laneOf v b l)) (holdsOf c (laneOf w a l) (laneOf w b l)) (λ t. ap₂ (holdsOf c) (same l h t a) (same l h t b)))
   where

@@ -3,12 +3,13 @@ use isa::VReg;
 use word::Cond;
 use word::Op;
 ghost use mathlib.Core.Path.{_≡_};
+ghost use mathlib.Core.Bool.{cond};
 ghost use Prim.Native.Nat.{_^_, _<_, _≤_};
 ghost use lib.ListN.{length};
-ghost use Rattle.word.specs.Word.{pick};
 ghost use Rattle.lanes.specs.Mask.{bit};
-ghost use Rattle.lanes.specs.Lanes.{lanesMax, registers, fileWords, slotOf, laneOf, operandOf, OperandOk, opLane, writeLanes, maskOf, wantsOf, valueOf, uniformOf};
-ghost use Rattle.lanes.specs.Rows.{at, Row, mapLane, holdsLane, maskStep};
+ghost use Rattle.lanes.specs.Lanes.{lanesMax, registers, fileWords, slotOf, laneOf, operandOf, opLane, writeLanes, maskOf, wantsOf, valueOf, uniformOf};
+ghost use Rattle.lanes.specs.Rows.{OperandOk};
+ghost use Rattle.lanes.specs.Rows.{at, RowOf, mapLane, holdsLane, maskStep};
 
 pub const LANES: usize = 32;
 
@@ -30,7 +31,7 @@ fn wide(x: u8) -> usize
 // The one place where register and lane become an index of the file.
 pub fn slot(r: VReg, l: Lane) -> usize
     requires { ⌜ (r .0 < registers) × (l .0 < lanesMax) ⌝ }
-    ensures { λ i. ⌜ i ≡ slotOf r (l .0) ⌝ }
+    ensures { λ i. ⌜ i ≡ slotOf r l ⌝ }
 {
     let register = wide(r.0);
     let lane = l.0;
@@ -39,13 +40,13 @@ pub fn slot(r: VReg, l: Lane) -> usize
 
 pub fn active(mask: u32, l: Lane) -> bool
     requires { ⌜ l .0 < lanesMax ⌝ }
-    ensures { λ t. ⌜ t ≡ bit mask (l .0) ⌝ }
+    ensures { λ t. ⌜ t ≡ bit mask l ⌝ }
 {
     (mask >> (l.0 as u32)) % 2 == 1
 }
 
 fn choose(t: bool, x: u32, y: u32) -> u32
-    ensures { λ r. ⌜ r ≡ pick t x y ⌝ }
+    ensures { λ r. ⌜ r ≡ cond t x y ⌝ }
 {
     if t { x } else { y }
 }
@@ -53,7 +54,7 @@ fn choose(t: bool, x: u32, y: u32) -> u32
 // Register r's lanes as a row: by value and over all lanes, it is compiled to plain copies.
 fn row(v: &[u32], r: VReg) -> [u32; LANES]
     requires { ⌜ (length (now v) ≡ fileWords) × (r .0 < registers) ⌝ }
-    ensures { λ a. ⌜ Row lanesMax (laneOf (now (v .entry)) r) a ⌝ }
+    ensures { λ a. ⌜ RowOf lanesMax (laneOf (now (v .entry)) r) a ⌝ }
 {
     let mut a = [0u32; LANES];
     let mut l = 0;
@@ -68,7 +69,7 @@ fn row(v: &[u32], r: VReg) -> [u32; LANES]
 // The operand's lanes as a row.
 fn operand_row(v: &[u32], b: Operand) -> [u32; LANES]
     requires { ⌜ (length (now v) ≡ fileWords) × OperandOk b ⌝ }
-    ensures { λ a. ⌜ Row lanesMax (operandOf (now (v .entry)) b) a ⌝ }
+    ensures { λ a. ⌜ RowOf lanesMax (operandOf (now (v .entry)) b) a ⌝ }
 {
     match b {
         Operand::Reg(r) => row(v, r),
@@ -78,15 +79,15 @@ fn operand_row(v: &[u32], b: Operand) -> [u32; LANES]
 
 // Register r's lanes below n, into a row that is lent.
 pub fn get(v: &[u32], r: VReg, n: usize, a: &mut [u32; LANES])
-    requires { ⌜ (length (now v) ≡ fileWords) × ((r .0 < registers) × ((n ≤ lanesMax) × (length (now a) ≡ lanesMax))) ⌝ }
-    ensures { λ _. ⌜ Row n (laneOf (now (v .entry)) r) (now (a .exit)) ⌝ }
+    requires { ⌜ (length (now v) ≡ fileWords) × (r .0 < registers) × (n ≤ lanesMax) × (length (now a) ≡ lanesMax) ⌝ }
+    ensures { λ _. ⌜ RowOf n (laneOf (now (v .entry)) r) (now (a .exit)) ⌝ }
 {
     *a = row(v, r);
 }
 
 // The one loop of every operation: both words are at hand and one is chosen without a branch, so it is compiled to vector code.
 fn map(op: Op, v: &mut [u32], mask: u32, d: VReg, n: usize, x: &[u32; LANES], y: &[u32; LANES])
-    requires { ⌜ (length (now v) ≡ fileWords) × ((d .0 < registers) × (n ≤ lanesMax)) ⌝ }
+    requires { ⌜ (length (now v) ≡ fileWords) × (d .0 < registers) × (n ≤ lanesMax) ⌝ }
     ensures { λ _. ⌜ now (v .exit) ≡ writeLanes n (bit mask) d (mapLane op (now (x .entry)) (now (y .entry))) (now (v .entry)) ⌝ }
 {
     let mut l = 0;
@@ -101,7 +102,7 @@ fn map(op: Op, v: &mut [u32], mask: u32, d: VReg, n: usize, x: &[u32; LANES], y:
 
 // The loop of a division, which has no vector code: in the lanes of the mask only.
 fn map_on(op: Op, v: &mut [u32], mask: u32, d: VReg, n: usize, x: &[u32; LANES], y: &[u32; LANES])
-    requires { ⌜ (length (now v) ≡ fileWords) × ((d .0 < registers) × (n ≤ lanesMax)) ⌝ }
+    requires { ⌜ (length (now v) ≡ fileWords) × (d .0 < registers) × (n ≤ lanesMax) ⌝ }
     ensures { λ _. ⌜ now (v .exit) ≡ writeLanes n (bit mask) d (mapLane op (now (x .entry)) (now (y .entry))) (now (v .entry)) ⌝ }
 {
     let mut l = 0;
@@ -116,7 +117,7 @@ fn map_on(op: Op, v: &mut [u32], mask: u32, d: VReg, n: usize, x: &[u32; LANES],
 
 // The loop at an operation that is known, so that each arm is compiled to code of its own.
 fn map_op(op: Op, v: &mut [u32], mask: u32, d: VReg, n: usize, x: &[u32; LANES], y: &[u32; LANES])
-    requires { ⌜ (length (now v) ≡ fileWords) × ((d .0 < registers) × (n ≤ lanesMax)) ⌝ }
+    requires { ⌜ (length (now v) ≡ fileWords) × (d .0 < registers) × (n ≤ lanesMax) ⌝ }
     ensures { λ _. ⌜ now (v .exit) ≡ writeLanes n (bit mask) d (mapLane op (now (x .entry)) (now (y .entry))) (now (v .entry)) ⌝ }
 {
     match op {
@@ -149,21 +150,27 @@ fn map_op(op: Op, v: &mut [u32], mask: u32, d: VReg, n: usize, x: &[u32; LANES],
         Op::Sleu => map(Op::Sleu, v, mask, d, n, x, y),
         Op::Sgt => map(Op::Sgt, v, mask, d, n, x, y),
         Op::Sgtu => map(Op::Sgtu, v, mask, d, n, x, y),
-        Op::Move => map(Op::Move, v, mask, d, n, x, y),
     }
 }
 
 // The row into register d, in each lane of the mask below n.
 pub fn put(v: &mut [u32], mask: u32, d: VReg, n: usize, a: &[u32; LANES])
-    requires { ⌜ (length (now v) ≡ fileWords) × ((d .0 < registers) × (n ≤ lanesMax)) ⌝ }
+    requires { ⌜ (length (now v) ≡ fileWords) × (d .0 < registers) × (n ≤ lanesMax) ⌝ }
     ensures { λ _. ⌜ now (v .exit) ≡ writeLanes n (bit mask) d (at (now (a .entry))) (now (v .entry)) ⌝ }
 {
-    map(Op::Move, v, mask, d, n, a, a)
+    let mut l = 0;
+    while l < n {
+        let i = slot(d, Lane(l));
+        let was = v[i];
+        let new = a[l];
+        v[i] = choose(active(mask, Lane(l)), new, was);
+        l += 1;
+    }
 }
 
 // The operation into register d, in each lane of the mask. A constant count is faster, and no lane from n on is in the mask.
 pub fn op_lanes(v: &mut [u32], mask: u32, n: usize, op: Op, d: VReg, a: VReg, b: Operand)
-    requires { ⌜ (length (now v) ≡ fileWords) × ((d .0 < registers) × ((a .0 < registers) × (OperandOk b × ((n ≤ lanesMax) × (mask < 2 ^ n))))) ⌝ }
+    requires { ⌜ (length (now v) ≡ fileWords) × (d .0 < registers) × (a .0 < registers) × OperandOk b × (n ≤ lanesMax) × (mask < 2 ^ n) ⌝ }
     ensures { λ _. ⌜ now (v .exit) ≡ writeLanes n (bit mask) d (opLane op (now (v .entry)) a b) (now (v .entry)) ⌝ }
 {
     let x = row(v, a);
@@ -173,15 +180,16 @@ pub fn op_lanes(v: &mut [u32], mask: u32, n: usize, op: Op, d: VReg, a: VReg, b:
 
 // vmv.v and vmv.s.x: the operand into register d, in each lane of the mask.
 pub fn move_lanes(v: &mut [u32], mask: u32, n: usize, d: VReg, b: Operand)
-    requires { ⌜ (length (now v) ≡ fileWords) × ((d .0 < registers) × (OperandOk b × ((n ≤ lanesMax) × (mask < 2 ^ n)))) ⌝ }
+    requires { ⌜ (length (now v) ≡ fileWords) × (d .0 < registers) × OperandOk b × (n ≤ lanesMax) × (mask < 2 ^ n) ⌝ }
     ensures { λ _. ⌜ now (v .exit) ≡ writeLanes n (bit mask) d (operandOf (now (v .entry)) b) (now (v .entry)) ⌝ }
 {
-    op_lanes(v, mask, n, Op::Move, d, d, b)
+    let y = operand_row(v, b);
+    put(v, mask, d, LANES, &y);
 }
 
 // Each lane's own number.
 fn count() -> [u32; LANES]
-    ensures { λ a. ⌜ Row lanesMax (λ l. l) a ⌝ }
+    ensures { λ a. ⌜ RowOf lanesMax (λ l. l .0) a ⌝ }
 {
     let mut a = [0u32; LANES];
     let mut l = 0;
@@ -194,8 +202,8 @@ fn count() -> [u32; LANES]
 
 // vid.v: the lane's number into register d, in each lane of the mask.
 pub fn id_lanes(v: &mut [u32], mask: u32, n: usize, d: VReg)
-    requires { ⌜ (length (now v) ≡ fileWords) × ((d .0 < registers) × (n ≤ lanesMax)) ⌝ }
-    ensures { λ _. ⌜ now (v .exit) ≡ writeLanes n (bit mask) d (λ l. l) (now (v .entry)) ⌝ }
+    requires { ⌜ (length (now v) ≡ fileWords) × (d .0 < registers) × (n ≤ lanesMax) ⌝ }
+    ensures { λ _. ⌜ now (v .exit) ≡ writeLanes n (bit mask) d (λ l. l .0) (now (v .entry)) ⌝ }
 {
     let x = count();
     put(v, mask, d, n, &x);
@@ -204,7 +212,7 @@ pub fn id_lanes(v: &mut [u32], mask: u32, n: usize, d: VReg)
 // A mask of lanes below l, with lane l where t holds.
 pub fn with(m: u32, l: Lane, t: bool) -> u32
     requires { ⌜ (l .0 < lanesMax) × (m < 2 ^ l .0) ⌝ }
-    ensures { λ r. ⌜ r ≡ maskStep t (l .0) m ⌝ }
+    ensures { λ r. ⌜ r ≡ maskStep t l m ⌝ }
 {
     m | choose(t, 1 << (l.0 as u32), 0)
 }
@@ -240,7 +248,7 @@ fn hold_op(c: Cond, n: usize, a: &[u32; LANES], b: &[u32; LANES]) -> u32
 
 // VBRANCH's else mask: the lanes of the mask in which the compare holds.
 pub fn else_mask(v: &[u32], mask: u32, n: usize, c: Cond, a: VReg, b: VReg) -> u32
-    requires { ⌜ (length (now v) ≡ fileWords) × ((a .0 < registers) × ((b .0 < registers) × ((n ≤ lanesMax) × (mask < 2 ^ n)))) ⌝ }
+    requires { ⌜ (length (now v) ≡ fileWords) × (a .0 < registers) × (b .0 < registers) × (n ≤ lanesMax) × (mask < 2 ^ n) ⌝ }
     ensures { λ r. ⌜ r ≡ maskOf n (wantsOf (now (v .entry)) mask c a b) ⌝ }
 {
     let x = row(v, a);
@@ -271,7 +279,7 @@ pub struct Shared {
 
 // vmv.x.s: whether all lanes of the mask hold one word in register a, and that word.
 pub fn uniform(v: &[u32], mask: u32, n: usize, a: VReg) -> Shared
-    requires { ⌜ (length (now v) ≡ fileWords) × ((a .0 < registers) × ((n ≤ lanesMax) × (mask < 2 ^ n))) ⌝ }
+    requires { ⌜ (length (now v) ≡ fileWords) × (a .0 < registers) × (n ≤ lanesMax) × (mask < 2 ^ n) ⌝ }
     ensures { λ r. ⌜ (r .uniform ≡ uniformOf n (bit mask) (laneOf (now (v .entry)) a)) × (r .value ≡ valueOf n (bit mask) (laneOf (now (v .entry)) a)) ⌝ }
 {
     let x = row(v, a);

@@ -1,35 +1,18 @@
 // The public calls of the bench machine: launch, step, run, release. Each answers for all inputs, and asks nothing of its caller.
 use answer::Answer;
 use answer::Refusal;
-use running::FIXED;
-use running::FLAT;
-use running::MOVING;
-use running::SCALARS;
-use warp::Fixed;
 use warp::Launch;
 use warp::SPLITS;
 use warp::Warp;
 ghost use mathlib.Core.Path.{_≡_};
+ghost use Prim.Native.Nat.{_<_};
 ghost use lib.ListN.{length, replicate};
 ghost use Rattle.answer.specs.Answer.{numberOf};
 ghost use Rattle.lanes.specs.Lanes.{fileWords};
 ghost use Rattle.warp.specs.Warp.{answered};
-ghost use Rattle.running.specs.Words.{movingCount, flatCount};
 ghost use Rattle.definition.specs.State.{state, outcome};
-ghost use Rattle.definition.specs.Refuse.{runsOkOf};
 ghost use Rattle.definition.specs.Step.{stepOf};
-ghost use Rattle.definition.specs.Calls.{launchedOf, launchOf, ran, runOf, releaseOf};
-ghost use Rattle.exec.specs.Steps.{lists, Started};
-ghost use Rattle.machine.specs.Drives.{Drives, RunsWords};
-
-// The most kernel words and data bytes that may be lent, the words of a vector file, and what a base plus a length stays within.
-const KERNEL_LIMIT: usize = 16384;
-
-const DATA_LIMIT: usize = 65536;
-
-const FILE_WORDS: usize = 1024;
-
-const ADDRESSES: usize = 0x1_0000_0000;
+ghost use Rattle.definition.specs.Calls.{launchedOf, launchOf, ran, budgetLimit, runOf, releaseOf};
 
 // What a call leaves: its answer and the warp.
 pub struct Left {
@@ -38,30 +21,13 @@ pub struct Left {
 }
 
 // What a run leaves; `steps` counts the steps that were taken.
-pub struct Ran {
+pub struct RunLeft {
     pub answer: Answer,
     pub steps: u32,
     pub warp: Warp,
 }
 
 // ---- a launch
-
-// The sizes of the lent runs, and the bases plus lengths.
-fn runs_ok(f: Fixed, kernel: &[u32], vector: &[u32], bytes: &[u8]) -> bool
-    ensures { λ r. ⌜ r ≡ runsOkOf f (now (kernel .entry)) (now (vector .entry)) (now (bytes .entry)) ⌝ }
-{
-    let words = kernel.len();
-    if KERNEL_LIMIT < words {
-        return false;
-    }
-    let size = bytes.len();
-    if DATA_LIMIT < size {
-        return false;
-    }
-    (1 <= words)
-        & ((f.codebase as usize + 4 * words <= ADDRESSES)
-            & ((vector.len() == FILE_WORDS) & (f.database as usize + size <= ADDRESSES)))
-}
 
 fn clear(vector: &mut [u32])
     requires { ⌜ length (now vector) ≡ fileWords ⌝ }
@@ -84,7 +50,7 @@ fn launched(l: Launch) -> Warp
         splits: [z; 31],
         depth: 0,
         pc: l.entry,
-        mask: f.launchmask,
+        mask: f.launchMask,
         rpc: 0,
         print: 0,
         ended: false,
@@ -98,7 +64,7 @@ pub fn launch(l: Launch, kernel: &[u32], vector: &mut [u32], bytes: &[u8]) -> Le
     ensures { λ r. ⌜ outcome (numberOf (r .answer)) (state (r .warp) (now (vector .exit)) (now (bytes .entry))) ≡ launchOf (now (kernel .entry)) l (now (vector .entry)) (now (bytes .entry)) ⌝ }
 {
     let f = l.fixed;
-    if !runs_ok(f, kernel, vector, bytes) {
+    if !drive::runs_ok(f, kernel, vector, bytes) {
         return Left {
             answer: Answer::Refused(Refusal::Size),
             warp: warp::zero_warp(),
@@ -119,78 +85,10 @@ pub fn launch(l: Launch, kernel: &[u32], vector: &mut [u32], bytes: &[u8]) -> Le
 
 // ---- a run
 
-// How a loop over steps ended: the last step's number, and how many were taken.
-pub struct Drove {
-    pub code: u32,
-    pub steps: u32,
-}
-
-// At most n steps on the lent words: the one loop over steps, which other loops call with a budget of 1. The fixed and the moving words are
-// copied into it, so that they stay in registers whoever calls (docs/SPEED.md).
-fn drive(
-    moving: &mut [u32; MOVING],
-    fixed: &[u32; FIXED],
-    x: &mut [u32; SCALARS],
-    s: &mut [u32; FLAT],
-    kernel: &[u32],
-    vector: &mut [u32],
-    bytes: &mut [u8],
-    n: u32,
-) -> Drove
-    requires { ⌜ Started (now kernel) (lists (now fixed) (now moving) (now x) (now s) (now vector) (now bytes)) ⌝ }
-    ensures { λ r. ⌜ Drives (now (kernel .entry)) n (r .code) (r .steps) (lists (now (fixed .entry)) (now (moving .entry)) (now (x .entry)) (now (s .entry)) (now (vector .entry)) (now (bytes .entry))) (lists (now (fixed .entry)) (now (moving .exit)) (now (x .exit)) (now (s .exit)) (now (vector .exit)) (now (bytes .exit))) ⌝ }
-{
-    let g = *fixed;
-    let mut h = *moving;
-    let mut t: u32 = 0;
-    let mut code: u32 = 0;
-    while t < n {
-        code = exec::step(&mut h, &g, x, s, kernel, vector, bytes);
-        if code != 0 {
-            break;
-        }
-        t += 1;
-    }
-    *moving = h;
-    Drove {
-        code: code,
-        steps: t,
-    }
-}
-
-// A run on a warp's words: its tests, and at most n steps.
-pub fn run_words(
-    h: &mut [u32; MOVING],
-    g: &[u32; FIXED],
-    x: &mut [u32; SCALARS],
-    s: &mut [u32; FLAT],
-    kernel: &[u32],
-    vector: &mut [u32],
-    bytes: &mut [u8],
-    n: u32,
-) -> Drove
-    requires { ⌜ (length (now h) ≡ movingCount) × (length (now s) ≡ flatCount) ⌝ }
-    ensures { λ r. ⌜ RunsWords (now (kernel .entry)) n (r .code) (r .steps) (lists (now (g .entry)) (now (h .entry)) (now (x .entry)) (now (s .entry)) (now (vector .entry)) (now (bytes .entry))) (lists (now (g .entry)) (now (h .exit)) (now (x .exit)) (now (s .exit)) (now (vector .exit)) (now (bytes .exit))) ⌝ }
-{
-    if !runs_ok(running::fixed_in(g), kernel, vector, bytes) {
-        return Drove {
-            code: answer::SIZE,
-            steps: 0,
-        };
-    }
-    if !running::words_ok(h, g, x, s) {
-        return Drove {
-            code: answer::MALFORMED,
-            steps: 0,
-        };
-    }
-    drive(h, g, x, s, kernel, vector, bytes, n)
-}
-
-fn refused_run(r: Refusal, w: Warp) -> Ran
+fn refused_run(r: Refusal, w: Warp) -> RunLeft
     ensures { λ t. ⌜ t ≡ record { answer = Answer.Refused r; steps = 0; warp = w } ⌝ }
 {
-    Ran {
+    RunLeft {
         answer: Answer::Refused(r),
         steps: 0,
         warp: w,
@@ -198,24 +96,24 @@ fn refused_run(r: Refusal, w: Warp) -> Ran
 }
 
 // At most `budget` steps, to the first refusal. The warp is tested and taken apart once.
-pub fn run(w: Warp, kernel: &[u32], vector: &mut [u32], bytes: &mut [u8], budget: u32) -> Ran
-    ensures { λ r. ⌜ ran (r .steps) (outcome (numberOf (r .answer)) (state (r .warp) (now (vector .exit)) (now (bytes .exit)))) ≡ runOf (now (kernel .entry)) budget (state w (now (vector .entry)) (now (bytes .entry))) ⌝ }
+pub fn run(w: Warp, kernel: &[u32], vector: &mut [u32], bytes: &mut [u8], budget: u32) -> RunLeft
+    ensures { λ r. ⌜ (budget < budgetLimit) × (ran (r .steps) (outcome (numberOf (r .answer)) (state (r .warp) (now (vector .exit)) (now (bytes .exit)))) ≡ runOf (now (kernel .entry)) budget (state w (now (vector .entry)) (now (bytes .entry)))) ⌝ }
 {
     let f = w.fixed;
-    if !runs_ok(f, kernel, vector, bytes) {
+    if !drive::runs_ok(f, kernel, vector, bytes) {
         return refused_run(Refusal::Size, w);
     }
     if SPLITS < w.depth {
         return refused_run(Refusal::Malformed, w);
     }
     let q = w.splits;
-    let g = running::fixed_of(f);
-    let mut h = running::moving_of(w);
+    let g = layout::fixed_of(f);
+    let mut h = layout::moving_of(w);
     let mut x = w.x;
-    let mut s = running::flat(q);
-    let end = run_words(&mut h, &g, &mut x, &mut s, kernel, vector, bytes, budget);
-    let u = running::together(&h, &g, x, &s);
-    Ran {
+    let mut s = layout::flat(q);
+    let end = drive::run_words(&mut h, &g, &mut x, &mut s, kernel, vector, bytes, budget);
+    let u = layout::together(&h, &g, x, &s);
+    RunLeft {
         answer: answer::answer_of(end.code),
         steps: end.steps,
         warp: u,
@@ -238,7 +136,7 @@ pub fn step(w: Warp, kernel: &[u32], vector: &mut [u32], bytes: &mut [u8]) -> Le
 pub fn release(w: Warp) -> Left
     ensures { λ r. ⌜ answered (numberOf (r .answer)) (r .warp) ≡ releaseOf w ⌝ }
 {
-    if !running::well_formed(w) {
+    if !formed::well_formed(w) {
         return Left {
             answer: Answer::Refused(Refusal::Malformed),
             warp: w,

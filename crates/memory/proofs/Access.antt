@@ -1,4 +1,4 @@
--- The access rule as orders, and the tests that the code makes of it. Assumes nothing.
+-- The access rule as orders, and the tests that the code makes of it.
 use mathlib.Core.Path.{_≡_, refl, ap, _∙_}
 use mathlib.Core.Bool.{Bool, true, false, not, _&&_}
 use mathlib.Core.List.{List}
@@ -9,6 +9,7 @@ use lib.Dec.{eqb, ltb, leb}
 use lib.ListN.{length}
 use borrow.Author.Tests.{lt-ltb, le-ltb, leb-true, leb-false}
 use Rattle.word.specs.Word.{subOf}
+use Rattle.lanes.specs.declared.Lane.{Lane}
 use Rattle.lanes.specs.Mask.{bit}
 use Rattle.lanes.specs.Lanes.{maskOf}
 use Rattle.lanes.proofs.Laws.{all-at, all-same, ok-at, ok-not, both-left, both-right}
@@ -48,11 +49,11 @@ pub inside-length : (b : ℕ) (d e : List ℕ) (w a : ℕ) → length d ≡ leng
 inside-length b d e w a h = ap (λ (n : ℕ). leb b a && leb (a + w) (b + n)) h
 
 -- where every access by lanes lies inside, each active lane's does
-pub all-inside-at : (n : ℕ) (on : ℕ → Bool) (m : Memory) (w : ℕ) (at : ℕ → ℕ) → true ≡ allInside n on m w at → (l : ℕ) → l < n → on l ≡ true → insideOf m w (at l) ≡ true
+pub all-inside-at : (n : ℕ) (on : Lane → Bool) (m : Memory) (w : ℕ) (at : Lane → ℕ) → true ≡ allInside n on m w at → (l : Lane) → l .0 < n → on l ≡ true → insideOf m w (at l) ≡ true
 all-inside-at n on m w at all l h t = ok-at (on l) (insideOf m w (at l)) (all-at (laneInside on m w at) n l all h) t
 
 -- the test pass: no active lane is among those outside
-pub none-outside : (n mask : ℕ) (m : Memory) (w : ℕ) (at : ℕ → ℕ) (out : ℕ) → mask < 2 ^ n → out ≡ maskOf n (λ l. not (insideOf m w (at l))) → eqb (bitAnd out mask) 0 ≡ allInside n (bit mask) m w at
+pub none-outside : (n mask : ℕ) (m : Memory) (w : ℕ) (at : Lane → ℕ) (out : ℕ) → mask < 2 ^ n → out ≡ maskOf n (λ l. not (insideOf m w (at l))) → eqb (bitAnd out mask) 0 ≡ allInside n (bit mask) m w at
 none-outside n mask m w at out h e =
     ap (λ (x : ℕ). eqb (bitAnd x mask) 0) e
     ∙ ap (λ (x : ℕ). eqb x 0) (and-bits (λ l. not (insideOf m w (at l))) n mask h)

@@ -1,4 +1,4 @@
--- What loads and stores keep, and what they depend on, over the lane count. Assumes nothing.
+-- What loads and stores keep, and what they depend on, over the lane count.
 use mathlib.Core.Path.{_≡_, refl, sym, ap, ap₂, _∙_, subst}
 use mathlib.Core.Bool.{Bool, true, false, cond, true≢false}
 use mathlib.Core.List.{List, [], _∷_}
@@ -12,6 +12,7 @@ use Rattle.isa.specs.declared.LoadOp.{LoadOp}
 use Rattle.isa.specs.declared.Space.{Space}
 use Rattle.isa.specs.declared.StoreOp.{StoreOp}
 use Rattle.isa.specs.declared.VReg.{VReg}
+use Rattle.lanes.specs.declared.Lane.{Lane}
 use Rattle.lanes.specs.Lanes.{laneOf, writeLanes}
 use Rattle.lanes.proofs.Laws.{newest, each-grows, each-keeps, each-same, write-same, all-same, ok-same}
 use Rattle.memory.specs.declared.Loaded.the-variants.{Found, Outside}
@@ -32,11 +33,11 @@ outside-is true v e = cc
 outside-is false v e = refl
 
 -- a lane's address depends on that lane's word alone
-pub address-only : (s : Space) (p : Private) (v w : List ℕ) (r : VReg) (off l : ℕ) → laneOf v r l ≡ laneOf w r l → laneAddress s p v r off l ≡ laneAddress s p w r off l
+pub address-only : (s : Space) (p : Private) (v w : List ℕ) (r : VReg) (off : ℕ) (l : Lane) → laneOf v r l ≡ laneOf w r l → laneAddress s p v r off l ≡ laneAddress s p w r off l
 address-only s p v w r off l same = ap (λ (x : ℕ). addressOf s p x off l) same
 
 -- ---- what active lanes' addresses decide
-module _ (n : ℕ) (on : ℕ → Bool) (m : Memory) (at at′ : ℕ → ℕ) (same : (l : ℕ) → l < n → on l ≡ true → at l ≡ at′ l) where
+module _ (n : ℕ) (on : Lane → Bool) (m : Memory) (at at′ : Lane → ℕ) (same : (l : Lane) → l .0 < n → on l ≡ true → at l ≡ at′ l) where
   -- whether an access by lanes is refused depends on active lanes only
   pub inside-only : (w : ℕ) → allInside n on m w at ≡ allInside n on m w at′
   inside-only w =
@@ -47,7 +48,7 @@ module _ (n : ℕ) (on : ℕ → Bool) (m : Memory) (at at′ : ℕ → ℕ) (sa
   load-only k vd v = write-same on vd (λ l. loadOf k m (at l)) (λ l. loadOf k m (at′ l)) v n (λ l h t. ap (loadOf k m) (same l h t))
 
   -- and what is stored
-  pub store-only : (k : StoreOp) (xs xs′ : ℕ → ℕ) → ((l : ℕ) → l < n → on l ≡ true → xs l ≡ xs′ l) → storeLanes n on k at xs m ≡ storeLanes n on k at′ xs′ m
+  pub store-only : (k : StoreOp) (xs xs′ : Lane → ℕ) → ((l : Lane) → l .0 < n → on l ≡ true → xs l ≡ xs′ l) → storeLanes n on k at xs m ≡ storeLanes n on k at′ xs′ m
   store-only k xs xs′ e =
       each-same on on _ _ (m .bytes) n (λ l h. refl) (λ l u h t. ap₂ (λ (a x : ℕ). storeOf k a x (memory (m .base) u)) (same l h t) (e l h t))
 
@@ -89,36 +90,36 @@ module _ (k : StoreOp) (a x : ℕ) (m : Memory) where
       sets-at (m .bytes) (indexIn m a) (leBytes (widthOf k) x) j (omega arith) (omega arith)
 
 -- ---- stores by lanes
-module _ (n : ℕ) (on : ℕ → Bool) (k : StoreOp) (at xs : ℕ → ℕ) (m : Memory) where
+module _ (n : ℕ) (on : Lane → Bool) (k : StoreOp) (at xs : Lane → ℕ) (m : Memory) where
   pub lanes-length : length (storeLanes n on k at xs m) ≡ length (m .bytes)
   lanes-length = each-keeps on _ (m .bytes) (λ u. length u ≡ length (m .bytes)) refl n (λ l u h t e. store-length k (at l) (xs l) (memory (m .base) u) ∙ e)
 
   -- a byte that no active lane's access has stays
-  pub lanes-unwritten : (i : ℕ) → ((l : ℕ) → l < n → on l ≡ true → indexIn m (at l) ≤ i → i < indexIn m (at l) + widthOf k → ⊥) → getD (storeLanes n on k at xs m) i 0 ≡ getD (m .bytes) i 0
+  pub lanes-unwritten : (i : ℕ) → ((l : Lane) → l .0 < n → on l ≡ true → indexIn m (at l) ≤ i → i < indexIn m (at l) + widthOf k → ⊥) → getD (storeLanes n on k at xs m) i 0 ≡ getD (m .bytes) i 0
   lanes-unwritten i o =
       each-keeps on _ (m .bytes) (λ u. getD u i 0 ≡ getD (m .bytes) i 0) refl n (λ l u h t e. store-unwritten k (at l) (xs l) (memory (m .base) u) i (o l h t) ∙ e)
 
   -- a byte has what the highest lane that stores to it stores there: byte j of active lane l's access, where no higher active lane's access has it
-  pub lanes-highest : true ≡ allInside n on m (widthOf k) at → (l : ℕ) → l < n → on l ≡ true → (j : ℕ) → j < widthOf k
-      → ((i : ℕ) → l < i → i < n → on i ≡ true → at i ≤ at l + j → at l + j < at i + widthOf k → ⊥)
+  pub lanes-highest : true ≡ allInside n on m (widthOf k) at → (l : Lane) → l .0 < n → on l ≡ true → (j : ℕ) → j < widthOf k
+      → ((i : Lane) → l .0 < i .0 → i .0 < n → on i ≡ true → at i ≤ at l + j → at l + j < at i + widthOf k → ⊥)
       → getD (storeLanes n on k at xs m) (indexIn m (at l) + j) 0 ≡ getD (leBytes (widthOf k) (xs l)) j 0
   lanes-highest all l h t j b o =
-      each-grows on _ (m .bytes) (λ i u. (length u ≡ length (m .bytes)) × (l < i → Has u)) (refl, λ z. absurd (omega arith)) n
+      each-grows on _ (m .bytes) (λ i u. (length u ≡ length (m .bytes)) × (l .0 < i → Has u)) (refl, λ z. absurd (omega arith)) n
       (λ i u p q e. (store-length k (at i) (xs i) (memory (m .base) u) ∙ e .0, λ z. ⊎-elim (newly i u (e .0)) (λ y. before i u p q y ∙ e .1 y) (newest z)))
       (λ i u p q e. (e .0, λ z. ⊎-elim (λ y. absurd (true≢false (sym t ∙ ap on y ∙ q))) (e .1) (newest z))) .1 h
     where
       Has : List ℕ → Type 0
       Has u = getD u (indexIn m (at l) + j) 0 ≡ getD (leBytes (widthOf k) (xs l)) j 0
 
-      fits : (i : ℕ) → i < n → on i ≡ true → (m .base ≤ at i) × (indexIn m (at i) + widthOf k ≤ length (m .bytes))
+      fits : (i : Lane) → i .0 < n → on i ≡ true → (m .base ≤ at i) × (indexIn m (at i) + widthOf k ≤ length (m .bytes))
       fits i p q = inside-true m (widthOf k) (at i) (all-inside-at n on m (widthOf k) at all i p q)
 
-      newly : (i : ℕ) (u : List ℕ) → length u ≡ length (m .bytes) → l ≡ i → Has (storeOf k (at i) (xs i) (memory (m .base) u))
+      newly : (i : Lane) (u : List ℕ) → length u ≡ length (m .bytes) → l ≡ i → Has (storeOf k (at i) (xs i) (memory (m .base) u))
       newly i u e y =
           let z = fits l h t in
-          subst (λ (i : ℕ). Has (storeOf k (at i) (xs i) (memory (m .base) u))) y (store-at k (at l) (xs l) (memory (m .base) u) (omega arith) j b)
+          subst (λ (i : Lane). Has (storeOf k (at i) (xs i) (memory (m .base) u))) y (store-at k (at l) (xs l) (memory (m .base) u) (omega arith) j b)
 
-      before : (i : ℕ) (u : List ℕ) → i < n → on i ≡ true → l < i → getD (storeOf k (at i) (xs i) (memory (m .base) u)) (indexIn m (at l) + j) 0 ≡ getD u (indexIn m (at l) + j) 0
+      before : (i : Lane) (u : List ℕ) → i .0 < n → on i ≡ true → l .0 < i .0 → getD (storeOf k (at i) (xs i) (memory (m .base) u)) (indexIn m (at l) + j) 0 ≡ getD u (indexIn m (at l) + j) 0
       before i u p q y =
           let z = fits l h t in
           let w = fits i p q in

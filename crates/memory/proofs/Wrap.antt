@@ -1,4 +1,4 @@
--- Wrapping at each step of a sum and at its end come to the same. Assumes nothing.
+-- Wrapping at each step of a sum and at its end come to the same.
 use mathlib.Core.Path.{_≡_, sym, ap, _∙_}
 use Prim.Native.Nat.{ℕ, _+_, _*_, _/_, _%_}
 use native.Mathlib.Nat.{mul-comm, add-mod, mod-add-mod, mod-add-div', add-mul-mod-self-right}

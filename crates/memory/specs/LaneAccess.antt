@@ -3,17 +3,18 @@ use mathlib.Core.Bool.{Bool}
 use mathlib.Core.List.{List}
 use Prim.Native.Nat.{ℕ}
 use Rattle.isa.specs.declared.StoreOp.{StoreOp}
+use Rattle.lanes.specs.declared.Lane.{Lane}
 use Rattle.lanes.specs.Lanes.{eachLane, allLanes, okIf}
 use Rattle.memory.specs.Memory.{Memory, memory, insideOf, storeOf}
 
 -- lane l makes no access, or one of w bytes that lies inside
-abbrev pub laneInside : (ℕ → Bool) → Memory → ℕ → (ℕ → ℕ) → ℕ → Bool
+abbrev pub laneInside : (Lane → Bool) → Memory → ℕ → (Lane → ℕ) → Lane → Bool
 laneInside on m w at l = okIf (on l) (insideOf m w (at l))
 
 -- every active lane's access lies inside
-abbrev pub allInside : ℕ → (ℕ → Bool) → Memory → ℕ → (ℕ → ℕ) → Bool
+abbrev pub allInside : ℕ → (Lane → Bool) → Memory → ℕ → (Lane → ℕ) → Bool
 allInside n on m w at = allLanes n (laneInside on m w at)
 
--- the bytes after a store of the words xs, in lane order: where active lanes store to one byte the highest wins
-abbrev pub storeLanes : ℕ → (ℕ → Bool) → StoreOp → (ℕ → ℕ) → (ℕ → ℕ) → Memory → List ℕ
+-- the bytes after a store of the words xs, in lane order: where active lanes store to one byte the highest wins (house rule)
+abbrev pub storeLanes : ℕ → (Lane → Bool) → StoreOp → (Lane → ℕ) → (Lane → ℕ) → Memory → List ℕ
 storeLanes n on k at xs m = eachLane n on (λ l e. storeOf k (at l) (xs l) (memory (m .base) e)) (m .bytes)

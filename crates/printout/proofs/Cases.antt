@@ -20,8 +20,8 @@ use Rattle.definition.specs.State.{Outcome}
 use Rattle.definition.specs.Refuse.{runsOkOf}
 use Rattle.definition.specs.Calls.{launchOf, runOf}
 use Rattle.definition.proofs.Sizes.{sizes-kept}
-use Rattle.printout.specs.Puts.{Puts, roomNeeded}
-use Rattle.printout.specs.Printout.{codeLine, budget, kernelBytes, dataBytes, filesOkOf, Report, report, ranReport, wordsOf, kernelReport, reportOf, printoutOf, Printed, printed, putInto, buffersOkOf, printFilesOf}
+use Rattle.printout.specs.Puts.{Puts}
+use Rattle.printout.specs.Printout.{codeLine, budget, kernelBytes, dataBytes, filesOkOf, Report, report, ranReport, kernelWordsOf, kernelReport, reportOf, printoutOf, Printed, printed, putInto, buffersOkOf, printFilesOf, roomNeeded}
 
 -- ---- the files
 
@@ -35,7 +35,7 @@ module _ (c k v d : List ℕ) (r : Reading) (e : r ≡ readCardOf c) (n : ℕ) (
     unfolding reportOf
     files-refused f = rw (← e, ← is, h, f)
 
-    pub files-taken : filesOkOf k d ≡ true → reportOf c k v d ≡ kernelReport (wordsOf k) (r .launch) v d
+    pub files-taken : filesOkOf k d ≡ true → reportOf c k v d ≡ kernelReport (kernelWordsOf k) (r .launch) v d
     unfolding reportOf
     files-taken f = rw (← e, ← is, h, f)
 
@@ -69,9 +69,9 @@ module _ (c k d v o : List ℕ) where
   unfolding printFilesOf
   print-done e = rw e
 
-pub room : (v o : List ℕ) → buffersOkOf v o ≡ true → roomNeeded ≤ length o
+pub buffer-room : (v o : List ℕ) → buffersOkOf v o ≡ true → roomNeeded ≤ length o
 unfolding buffersOkOf
-room v o e = leb-true _ _ (both (eqb (length v) fileWords) (leb roomNeeded (length o)) e .1)
+buffer-room v o e = leb-true _ _ (both (eqb (length v) fileWords) (leb roomNeeded (length o)) e .1)
 
 pub counted : (o p v d : List ℕ) (r : ℕ) (x : Report) → printed r p v d ≡ putInto o x → r ≤ roomNeeded → roomNeeded ≤ length o → Counts r p
 counted o p v d r x e a b =
@@ -103,6 +103,6 @@ module _ (v d : List ℕ) (h : length v ≡ fileWords) where
       let r = readCardOf c in
       go (first (r .number ⇒ not (eqb (r .number) 0) ∷ 1 ⇒ not (filesOkOf k d) ∷ [])) (eqb (first (r .number ⇒ not (eqb (r .number) 0) ∷ 1 ⇒ not (filesOkOf k d) ∷ [])) 0)
     where
-      go : (n : ℕ) (t : Bool) → cond t (kernelReport (wordsOf k) (readCardOf c .launch) v d) (report (codeLine n) v d) .lines ≡ cond t (kernelReport (wordsOf k) (readCardOf c .launch) zeros d) (report (codeLine n) zeros d) .lines
-      go n true = kernel-lines (wordsOf k) (readCardOf c .launch) _ _ refl refl
+      go : (n : ℕ) (t : Bool) → cond t (kernelReport (kernelWordsOf k) (readCardOf c .launch) v d) (report (codeLine n) v d) .lines ≡ cond t (kernelReport (kernelWordsOf k) (readCardOf c .launch) zeros d) (report (codeLine n) zeros d) .lines
+      go n true = kernel-lines (kernelWordsOf k) (readCardOf c .launch) _ _ refl refl
       go n false = refl

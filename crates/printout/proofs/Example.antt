@@ -4,7 +4,7 @@ use Prim.Native.Nat.{ℕ}
 use mathlib.Core.List.{List, [], _∷_}
 use lib.ListN.{replicate}
 use Rattle.isa.specs.Decode.{decodeOf}
-use Rattle.isa.specs.Ventus.{stopOf, endPrgOf}
+use Rattle.isa.specs.Ventus.{stopWord, endPrgWord}
 use Rattle.lanes.specs.Mask.{bitAt}
 use Rattle.warp.specs.WellFormed.{fixedOkOf, splitOkOf, chainOf, allZero, wellFormedOf}
 use Rattle.card.specs.Card.{headOkAt, launchAt, readCardOf}
@@ -13,7 +13,7 @@ use Rattle.definition.specs.Exec.{effectOf}
 use Rattle.definition.specs.Step.{stepOf}
 use Rattle.definition.specs.Calls.{launchOf, stepsOf, runOf}
 use Rattle.printout.specs.Text.{decimalOf, hexOf}
-use Rattle.printout.specs.Printout.{codeLine, fiveLines, wordsOf, filesOkOf, kernelReport, reportOf, printoutOf}
+use Rattle.printout.specs.Printout.{codeLine, fiveLines, kernelWordsOf, filesOkOf, kernelReport, reportOf, printoutOf}
 
 -- length 48, version 1, NUMT 4, NUMW 1, WID 0; the mask; code base, data base and entry PC; KNL to GIDZ
 abbrev card : List ℕ
@@ -21,7 +21,7 @@ card = 0 ∷ 48 ∷ 1 ∷ 4 ∷ 1 ∷ 0 ∷ 0 ∷ 0 ∷ 0 ∷ 15 ∷ 128 ∷ 0 �
 
 -- the files' printout is code 3, steps 1, pc 80000000, mask f, splits 0
 end-alone : printoutOf card (11 ∷ 64 ∷ 0 ∷ 0 ∷ []) [] ≡ fiveLines 3 1 0x80000000 15 0
-unfolding printoutOf reportOf filesOkOf wordsOf kernelReport readCardOf headOkAt launchAt launchOf runOf stepsOf stepOf runsOkOf refusalsOf effectOf wellFormedOf fixedOkOf chainOf splitOkOf allZero bitAt decodeOf stopOf endPrgOf
+unfolding printoutOf reportOf filesOkOf kernelWordsOf kernelReport readCardOf headOkAt launchAt launchOf runOf stepsOf stepOf runsOkOf refusalsOf effectOf wellFormedOf fixedOkOf chainOf splitOkOf allZero bitAt decodeOf stopWord endPrgWord
 end-alone = refl
 
 -- and those are the lines

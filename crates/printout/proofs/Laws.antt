@@ -12,7 +12,7 @@ use lib.ListN.{length, take, set, getD, length-append}
 use lib.Seq.{sets, take-suc, take-suc-set, length-take-le}
 use Rattle.memory.specs.Bytes.{leAt}
 use Rattle.card.proofs.LayoutLaws.{sets-append}
-use Rattle.printout.specs.Printout.{firstWords, wordsOf}
+use Rattle.printout.specs.Printout.{firstWords, kernelWordsOf}
 use Rattle.printout.specs.Puts.{Puts}
 use Rattle.printout.specs.Text.{digitOf, hexDigits, decimalDigits, decimalOf}
 
@@ -83,6 +83,6 @@ words-length : (n : ℕ) (k : List ℕ) → length (firstWords n k) ≡ n
 words-length zero k = refl
 words-length (suc n) k = simp length-append (omega (arith, words-length n k))
 
-pub words-of-length : (k : List ℕ) → length (wordsOf k) ≡ length k / 4
-unfolding wordsOf
+pub words-of-length : (k : List ℕ) → length (kernelWordsOf k) ≡ length k / 4
+unfolding kernelWordsOf
 words-of-length k = words-length (length k / 4) k

@@ -13,22 +13,26 @@ use Rattle.card.specs.Card.{readCardOf}
 use Rattle.definition.specs.State.{Outcome}
 use Rattle.definition.specs.Calls.{launchOf, Ran, runOf}
 use Rattle.printout.specs.Text.{hexOf, decimalOf, lineOf}
-use Rattle.printout.specs.Puts.{roomNeeded}
 
--- ---- the lines' names, each with the blank after it
+-- ---- the lines' names in ASCII, each with the blank after it
 
+-- c o d e
 abbrev pub codeName : List ℕ
 codeName = 99 ∷ 111 ∷ 100 ∷ 101 ∷ 32 ∷ []
 
+-- s t e p s
 abbrev pub stepsName : List ℕ
 stepsName = 115 ∷ 116 ∷ 101 ∷ 112 ∷ 115 ∷ 32 ∷ []
 
+-- p c
 abbrev pub pcName : List ℕ
 pcName = 112 ∷ 99 ∷ 32 ∷ []
 
+-- m a s k
 abbrev pub maskName : List ℕ
 maskName = 109 ∷ 97 ∷ 115 ∷ 107 ∷ 32 ∷ []
 
+-- s p l i t s
 abbrev pub splitsName : List ℕ
 splitsName = 115 ∷ 112 ∷ 108 ∷ 105 ∷ 116 ∷ 115 ∷ 32 ∷ []
 
@@ -53,8 +57,8 @@ abbrev pub firstWords : ℕ → List ℕ → List ℕ
 firstWords zero k = []
 firstWords (suc n) k = firstWords n k ++ (leAt 4 k (4 * n) ∷ [])
 
-unfoldable pub wordsOf : List ℕ → List ℕ
-wordsOf k = firstWords (length k / 4) k
+unfoldable pub kernelWordsOf : List ℕ → List ℕ
+kernelWordsOf k = firstWords (length k / 4) k
 
 abbrev pub budget : ℕ
 budget = 65536
@@ -97,7 +101,7 @@ unfoldable pub reportOf : List ℕ → List ℕ → List ℕ → List ℕ → Re
 reportOf c k v d =
     let r = readCardOf c in
     let n = first (r .number ⇒ not (eqb (r .number) 0) ∷ 1 ⇒ not (filesOkOf k d) ∷ []) in
-    cond (eqb n 0) (kernelReport (wordsOf k) (r .launch) v d) (report (codeLine n) v d)
+    cond (eqb n 0) (kernelReport (kernelWordsOf k) (r .launch) v d) (report (codeLine n) v d)
 
 -- the printout, which the three files alone decide (the law printout-is)
 unfoldable pub printoutOf : List ℕ → List ℕ → List ℕ → List ℕ
@@ -118,6 +122,10 @@ printed n o v d = record { size = n; out = o; vector = v; bytes = d }
 -- the lines at the start of o
 abbrev pub putInto : List ℕ → Report → Printed
 putInto o p = printed (length (p .lines)) (sets o 0 (p .lines)) (p .vector) (p .bytes)
+
+-- a buffer of this length holds every printout
+abbrev pub roomNeeded : ℕ
+roomNeeded = 107
 
 -- a whole vector file, and room for every printout
 unfoldable pub buffersOkOf : List ℕ → List ℕ → Bool

@@ -9,7 +9,3 @@ use lib.Seq.{sets}
 pub record Puts (o : List ℕ) (i : ℕ) (w p : List ℕ) (j : ℕ) : Type 0 where
   pub text : p ≡ sets o i w
   pub end : j ≡ i + length w
-
--- a buffer of this length holds every printout
-abbrev pub roomNeeded : ℕ
-roomNeeded = 107

@@ -6,8 +6,8 @@ ghost use mathlib.Core.List.{[], _∷_};
 ghost use lib.ListN.{length, take};
 ghost use Rattle.io.specs.Counts.{Counts};
 ghost use Rattle.printout.specs.Text.{digitOf, hexDigits, hexOf, decimalOf, lineOf};
-ghost use Rattle.printout.specs.Puts.{Puts, roomNeeded};
-ghost use Rattle.printout.specs.Printout.{codeLine, fiveLines, wordsOf, filesOkOf, kernelReport, reportOf, printed, putInto, buffersOkOf, printFilesOf};
+ghost use Rattle.printout.specs.Puts.{Puts};
+ghost use Rattle.printout.specs.Printout.{codeLine, fiveLines, kernelWordsOf, filesOkOf, kernelReport, reportOf, printed, putInto, buffersOkOf, printFilesOf, roomNeeded};
 
 // ---- text, put into `out` from index `at` on; each answers the index after it
 
@@ -103,7 +103,7 @@ fn put_five_lines(out: &mut [u8], code: u32, steps: u64, pc: u32, mask: u32, spl
 // The words of a kernel file at the start of `words`.
 fn put_words(kernel: &[u8], words: &mut [u32])
     requires { ⌜ length (now kernel) / 4 ≤ length (now words) ⌝ }
-    ensures { λ _. ⌜ take (length (now (kernel .entry)) / 4) (now (words .exit)) ≡ wordsOf (now (kernel .entry)) ⌝ }
+    ensures { λ _. ⌜ take (length (now (kernel .entry)) / 4) (now (words .exit)) ≡ kernelWordsOf (now (kernel .entry)) ⌝ }
 {
     let n = kernel.len() / 4;
     let mut i = 0;

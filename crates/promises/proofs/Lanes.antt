@@ -13,6 +13,8 @@ use Rattle.answer.specs.Rows.{Row, first}
 use Rattle.answer.proofs.Rows.{every-at}
 use Rattle.isa.specs.declared.Instr.{Instr}
 use Rattle.isa.specs.declared.VReg.{VReg}
+use Rattle.lanes.specs.declared.Lane.{Lane}
+use Rattle.lanes.specs.Mask.{lane}
 use Rattle.lanes.specs.Lanes.{lanesMax, registers, fileWords, slotOf, writeLanes}
 use Rattle.lanes.proofs.Laws.{each-keeps, write-only, write-unwritten}
 use Rattle.lanes.proofs.MaskLaws.{bit-above}
@@ -30,14 +32,14 @@ use Rattle.definition.proofs.Target.{step-within}
 use Rattle.promises.specs.Lanes.{isActive, SameLane, Agree, allBut, withFile, Alike, ActiveMask, Kept, Unwritten, Unseen, Unfelt, LaneAlone}
 use Rattle.promises.proofs.Refusals.{is-zero, step-table, step-keeps}
 use Rattle.promises.proofs.Stores.{active-of, becomes-stays}
-use Rattle.promises.proofs.Twins.{Same, Twin, moves, gives, saves, seen}
+use Rattle.promises.proofs.Twins.{Same, Twin, moves, gives, stores-both, seen}
 use Rattle.promises.proofs.Written.{fixed-of, written}
 
 -- ---- active lanes
 
 pub active-mask : ActiveMask
 unfolding wellFormedOf
-active-mask m e l = below (ltb l (fixedOf m .numt)) refl
+active-mask m e l = below (ltb (l .0) (fixedOf m .numt)) refl
   where
     w : Warp
     w = m .warp
@@ -46,15 +48,15 @@ active-mask m e l = below (ltb l (fixedOf m .numt)) refl
     small =
         let p = every-at
         (fixedOkOf (w .fixed) ∷ aligned (w .pc) ∷ eqb (getD (w .x) 0 0) 0 ∷ leb (w .depth) splitCount ∷ allZero (drop (w .depth) (w .splits)) ∷ not (w .ended && w .waiting)
-        ∷ chainOf (w .fixed .launchmask) (w .splits) (w .depth) (w .mask) ∷ not ((w .ended || w .waiting) && ltb 0 (w .depth)) ∷ []) e in
-        lt-of-le-of-lt (chain-le (w .fixed .launchmask) (w .splits) (w .depth) (w .mask) (p 6)) (fixed-of w e .mask)
+        ∷ chainOf (w .fixed .launchMask) (w .splits) (w .depth) (w .mask) ∷ not ((w .ended || w .waiting) && ltb 0 (w .depth)) ∷ []) e in
+        lt-of-le-of-lt (chain-le (w .fixed .launchMask) (w .splits) (w .depth) (w .mask) (p 6)) (fixed-of w e .mask)
 
-    below : (t : Bool) → ltb l (fixedOf m .numt) ≡ t → (t && active m l) ≡ active m l
+    below : (t : Bool) → ltb (l .0) (fixedOf m .numt) ≡ t → (t && active m l) ≡ active m l
     below true t = refl
-    below false t = sym (bit-above (w .mask) (w .fixed .numt) l small (omega (arith, ltb-false l (w .fixed .numt) t)))
+    below false t = sym (bit-above (w .mask) (w .fixed .numt) l small (omega (arith, ltb-false (l .0) (w .fixed .numt) t)))
 
-inactive-bit : (m : State) (l : ℕ) → isActive m l ≡ false → l < fixedOf m .numt → active m l ≡ false
-inactive-bit m l e h = rw (lt-ltb l (fixedOf m .numt) h) at e
+inactive-bit : (m : State) (l : Lane) → isActive m l ≡ false → l .0 < fixedOf m .numt → active m l ≡ false
+inactive-bit m l e h = rw (lt-ltb (l .0) (fixedOf m .numt) h) at e
 
 -- ---- what an inactive lane keeps
 
@@ -72,10 +74,10 @@ module _ (k : List ℕ) (m : State) (u : List ℕ) (P : State → State → Type
 by-step : (k : List ℕ) (m : State) (P : State → Type 0) → P m → (stepOf k m .code ≡ 0 → P (effect (effectOf (instrAt k m) m) m)) → P (stepOf k m .left)
 by-step k m P = by-both k m (m .vector) (λ n o. P n) refl
 
-kept-by : (m : State) (u : List ℕ) (i : Instr) (a b : Effect) → fixedOf m .numt ≤ lanesMax → (l : ℕ) → l < lanesMax → isActive m l ≡ false → Twin m u i a b → SameLane l (effect a m .vector) (m .vector)
+kept-by : (m : State) (u : List ℕ) (i : Instr) (a b : Effect) → fixedOf m .numt ≤ lanesMax → (l : Lane) → l .0 < lanesMax → isActive m l ≡ false → Twin m u i a b → SameLane l (effect a m .vector) (m .vector)
 kept-by m u i a b n l h o (moves e) r = refl
 kept-by m u i a b n l h o (gives {r = c} {f = f} w e) r = write-unwritten (active m) c f (m .vector) (fixedOf m .numt) n r l h (inactive-bit m l o)
-kept-by m u i a b n l h o (saves t e) r = refl
+kept-by m u i a b n l h o (stores-both t e) r = refl
 
 pub kept : Kept
 kept k m l h o =
@@ -92,12 +94,12 @@ unwritten k m = (
 -- ---- what a lane depends on
 
 -- a write of the same words to a lane that is the same
-write-alike : (n : ℕ) (on : ℕ → Bool) (c : VReg) (f g : ℕ → ℕ) (v u : List ℕ) (l : ℕ) → n ≤ lanesMax → length v ≡ fileWords → length u ≡ fileWords → l < lanesMax → f l ≡ g l → SameLane l v u
+write-alike : (n : ℕ) (on : Lane → Bool) (c : VReg) (f g : Lane → ℕ) (v u : List ℕ) (l : Lane) → n ≤ lanesMax → length v ≡ fileWords → length u ≡ fileWords → l .0 < lanesMax → f l ≡ g l → SameLane l v u
     → SameLane l (writeLanes n on c f v) (writeLanes n on c g u)
 write-alike n on c f g v u l hn lv lu hl e s = in-file (ltb (c .0) registers) refl
   where
     -- a register that the file does not have is not written
-    none : registers ≤ c .0 → (h : ℕ → ℕ) (x : List ℕ) → length x ≡ fileWords → writeLanes n on c h x ≡ x
+    none : registers ≤ c .0 → (h : Lane → ℕ) (x : List ℕ) → length x ≡ fileWords → writeLanes n on c h x ≡ x
     none b h x lx = each-keeps on _ x (λ y. y ≡ x) refl n (λ m y p q z. set-out y (slotOf c m) (h m) (rw z (omega arith)) ∙ z)
 
     in-file : (t : Bool) → ltb (c .0) registers ≡ t → SameLane l (writeLanes n on c f v) (writeLanes n on c g u)
@@ -107,14 +109,14 @@ write-alike n on c f g v u l hn lv lu hl e s = in-file (ltb (c .0) registers) re
         subst₂ (SameLane l) (sym (none b f v lv)) (sym (none b g u lu)) s
 
 module _ (k : List ℕ) (m : State) (u : List ℕ) (long : length (m .vector) ≡ length u) where
-  alone : (i : Instr) (a b : Effect) → stepOf k m .code ≡ 0 → (l : ℕ) → l < lanesMax → SameLane l (m .vector) u → Twin m u i a b
+  alone : (i : Instr) (a b : Effect) → stepOf k m .code ≡ 0 → (l : Lane) → l .0 < lanesMax → SameLane l (m .vector) u → Twin m u i a b
       → SameLane l (effect a m .vector) (effect b (withFile u m) .vector)
   alone i a b z l h s (moves e) = s
   alone i a b z l h s (gives {r = c} {f = f} {g = g} w e) =
       let t = step-clear k m z in
       let n = sizes (fixedOf m) k (m .vector) (m .bytes) (t .runs) .file-is in
       write-alike (fixedOf m .numt) (active m) c f g (m .vector) u l (fixed-of (m .warp) (t .formed) .lanes .1) n (sym long ∙ n) h (e l s) s
-  alone i a b z l h s (saves t e) = s
+  alone i a b z l h s (stores-both t e) = s
 
   -- where the active lanes are the same, so are the answer, the warp and the data
   module _ (same : wellFormedOf (m .warp) ≡ true → Same m u) where
@@ -131,7 +133,7 @@ module _ (k : List ℕ) (m : State) (u : List ℕ) (long : length (m .vector) �
     equal : (i : Instr) (a b : Effect) → Same m u → Twin m u i a b → (effect a m .warp ≡ effect b (withFile u m) .warp) × (effect a m .bytes ≡ effect b (withFile u m) .bytes)
     equal i a b s (moves e) = (e s, refl)
     equal i a b s (gives w e) = (refl, refl)
-    equal i a b s (saves t e) = (refl, e s)
+    equal i a b s (stores-both t e) = (refl, e s)
 
     left-same : (stepOf k m .left .warp ≡ stepOf k (withFile u m) .left .warp) × (stepOf k m .left .bytes ≡ stepOf k (withFile u m) .left .bytes)
     left-same =
@@ -142,7 +144,7 @@ pub lane-alone : LaneAlone
 lane-alone k m u long c l h s = by-both k m u (λ n o. SameLane l (n .vector) (o .vector)) c s (λ z. alone k m u long _ _ _ z l h s (seen m u (instrAt k m) .twin))
 
 -- a set of lanes with all active ones: where the files agree on it, the outcomes are alike on it
-alike : (k : List ℕ) (m : State) (u : List ℕ) (on : ℕ → Bool) → ((l : ℕ) → isActive m l ≡ true → on l ≡ true) → Agree on (m .vector) u → Alike on (stepOf k m) (stepOf k (withFile u m))
+alike : (k : List ℕ) (m : State) (u : List ℕ) (on : Lane → Bool) → ((l : Lane) → isActive m l ≡ true → on l ≡ true) → Agree on (m .vector) u → Alike on (stepOf k m) (stepOf k (withFile u m))
 alike k m u on all g =
     let same : wellFormedOf (m .warp) ≡ true → Same m u = λ f l h t. g .1 l (lt-of-lt-of-le h (fixed-of (m .warp) f .lanes .1)) (all l (active-of m l h t)) in
     let c = code-same k m u (g .0) same in
@@ -155,8 +157,8 @@ alike k m u on all g =
     }
 
 -- an active lane is another than the inactive lane h
-pub all-but : (m : State) (h : ℕ) → isActive m h ≡ false → (l : ℕ) → isActive m l ≡ true → allBut h l ≡ true
-all-but m h i l a = ap not (ne-eqb l h (λ e. true≢false (sym a ∙ ap (isActive m) e ∙ i)))
+pub all-but : (m : State) (h : Lane) → isActive m h ≡ false → (l : Lane) → isActive m l ≡ true → allBut h l ≡ true
+all-but m h i l a = ap not (ne-eqb (l .0) (h .0) (λ e. true≢false (sym a ∙ ap (isActive m) (ap lane e) ∙ i)))
 
 pub unseen : Unseen
 unseen k m u g = alike k m u (isActive m) (λ l a. a) g

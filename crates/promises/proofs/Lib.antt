@@ -1,16 +1,10 @@
-pub mod Trace
-pub mod Worked
 pub mod Refusals
 pub mod Reached
 pub mod Runs
 pub mod Splits
-pub mod Bound
 pub mod Stores
 pub mod Twins
 pub mod Written
 pub mod Lanes
 pub mod Determined
-pub mod LaneCases
-pub mod Examples
-pub mod Duds
 pub mod Calls

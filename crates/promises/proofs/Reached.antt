@@ -23,7 +23,7 @@ use Rattle.definition.specs.Calls.{launchedOf, launchOf}
 use Rattle.definition.proofs.Sizes.{sizes, sizes-kept}
 use Rattle.definition.proofs.Sound.{step-sound}
 use Rattle.definition.proofs.Target.{step-within}
-use Rattle.promises.specs.Reached.{Goes, steps, releases, changes, launched, goes, Sound, ReachedSound, NeverMalformed}
+use Rattle.promises.specs.Reached.{GoesOn, steps, releases, changes, launched, goes, Sound, ReachedSound, NeverMalformed}
 use Rattle.promises.proofs.Refusals.{step-refusals, launch-refusals, release-refusals}
 
 -- what neither 1 nor 2 refuses
@@ -55,7 +55,7 @@ shut w f b = let z : ltb 0 (w .depth) ≡ false = go (w .ended) (w .waiting) (lt
     go false true true h t = cc
     go false false true h t = cc
 
-pub carried : (k : List ℕ) (s t : State) → Fit k s → Goes k s t → Carried s t
+pub carried : (k : List ℕ) (s t : State) → Fit k s → GoesOn k s t → Carried s t
 carried k s t g (steps q) =
     let z : stepOf k s .code ≡ 0 = ap (λ (o : Outcome). o .code) q in
     let n = step-within k s in
@@ -91,12 +91,12 @@ carried k s t g (changes v d) =
       size = d;
     }
 
-pub goes-fit : (k : List ℕ) (s t : State) → Fit k s → Goes k s t → Fit k t
+pub goes-fit : (k : List ℕ) (s t : State) → Fit k s → GoesOn k s t → Fit k t
 goes-fit k s t g n =
     let c = carried k s t g n in
     record { formed = well (t .warp) (c .formed); splits = c .formed .long; runs = rw (c .fixed) (sizes-kept (fixedOf s) k (s .vector) (s .bytes) (t .vector) (t .bytes) (c .words) (c .size) ∙ g .runs) }
 
-pub goes-sound : (k : List ℕ) (l : Launch) (s t : State) → Sound k l s → Goes k s t → Sound k l t
+pub goes-sound : (k : List ℕ) (l : Launch) (s t : State) → Sound k l s → GoesOn k s t → Sound k l t
 goes-sound k l s t g n =
     let c = carried k s t (fit k l s g) n in
     let f = goes-fit k s t (fit k l s g) n in
@@ -116,7 +116,7 @@ formed-launch l e =
       deep = omega arith;
       unused = refl;
       one = refl;
-      chain = eq-eqb (l .fixed .launchmask) _ refl;
+      chain = eq-eqb (l .fixed .launchMask) _ refl;
       quiet = refl;
     }
 

@@ -22,10 +22,10 @@ use Rattle.promises.specs.Refusals.{StepTable, StepRefusals, StepAnswers
 -- ---- a step
 
 pub step-table : StepTable
-step-table k m = Tests.step-table k m
+step-table k m = Tests.step-rows k m
 
 pub step-keeps : StepKeeps
-step-keeps k m n = Tests.step-keeps k m n
+step-keeps k m n = Tests.step-kept k m n
 
 -- none of the rows holds where the first that holds is none
 quiet : {A B : Type 0} (rs : List (Row Bool)) → without 0 rs ≡ true → Iff A ((silent rs ≡ true) × B) → Iff A ((first rs ≡ 0) × B)

@@ -43,7 +43,7 @@ held-at k l s g = held-of (s .warp) (formed (s .warp) (g .splits) (g .formed))
 pub covered : Covered
 covered k l s r i =
     let g : Sound k l s = reached-sound k l s r in
-    M.lanes-covered i (s .warp) (held-at k l s g) ∙ ap (λ f. bitAt i (f .launchmask)) (g .fixed)
+    M.lanes-covered i (s .warp) (held-at k l s g) ∙ ap (λ f. bitAt (i .0) (f .launchMask)) (g .fixed)
 
 pub fewer : Fewer
 fewer k l s r =
@@ -75,7 +75,7 @@ unfolding joinOf
 joined w =
     by-cond (λ (u : Warp). Joined (w .depth) (u .depth)) (eqb (w .depth) 0) _ _ (λ z. same)
     (λ z. by-cond (λ (u : Warp). Joined (w .depth) (u .depth)) (eqb (w .pc) (lastSplit w .rpc)) _ _
-    (λ q. by-cond (λ (u : Warp). Joined (w .depth) (u .depth)) (lastSplit w .phasetwo) _ _ (λ p. record { most = omega arith; least = omega arith }) (λ p. same))
+    (λ q. by-cond (λ (u : Warp). Joined (w .depth) (u .depth)) (lastSplit w .phaseTwo) _ _ (λ p. record { most = omega arith; least = omega arith }) (λ p. same))
     (λ q. same))
   where
     same : Joined (w .depth) (w .depth)
@@ -168,8 +168,8 @@ module _ (k : List ℕ) (l : Launch) (s t : State) (g : Sound k l s) (q : stepOf
     wide : Widens (s .warp) (t .warp)
     wide = widening (s .warp) (t .warp) (carried k s t (fit k l s g) (steps q) .moves) d
 
-    cuts-in-two : Widens (s .warp) (t .warp) → (s .warp .depth < splitCount) × CutInTwo (s .warp .mask) (lastSplit (t .warp) .elsemask) (t .warp .mask)
-    cuts-in-two (widens e p c u) = (M.fits e p (s .warp) (held-at k l s g) c, rw u (M.split-cuts e p (s .warp) (held-at k l s g) c))
+    cuts-in-two : Widens (s .warp) (t .warp) → (s .warp .depth < splitCount) × CutInTwo (s .warp .mask) (lastSplit (t .warp) .elseMask) (t .warp .mask)
+    cuts-in-two (widens e p c u) = (M.fits e p (s .warp) (held-at k l s g) c, rw u (M.cuts-open e p (s .warp) (held-at k l s g) c))
 
     opens : Opener s (instrAt k s) (t .warp) → Opens k s t
     opens (none n) = absurd (omega (arith, n .most))
@@ -177,7 +177,7 @@ module _ (k : List ℕ) (l : Launch) (s t : State) (g : Sound k l s) (q : stepOf
         let m = cuts-in-two wide in
         let o : Opened (elseOf c a b s) (pcBy 13 n s) (s .warp) (t .warp) = rw u (opening (elseOf c a b s) (pcBy 13 n s) (s .warp)) in
         let f = o .last (omega (arith, g .splits, m .0)) in
-        let e : lastSplit (t .warp) .elsemask ≡ elseOf c a b s = ap (λ (x : Split). x .elsemask) f in
+        let e : lastSplit (t .warp) .elseMask ≡ elseOf c a b s = ap (λ (x : Split). x .elseMask) f in
         record {
           by = record { cond = c; left = a; right = b; offset = n; word = i; some = λ z. omega (arith, m .1 .one, e); notall = λ z. omega (arith, m .1 .other, o .mask) };
           split = f;
@@ -228,13 +228,13 @@ closes-one w u (M.joins q) = rw q (joined w .least)
 closes-one w u (M.leaves x) = omega (arith, x .depth)
 
 -- what is above over calls is above over moves
-above : (k : List ℕ) (l : Launch) (n : ℕ) (s t : State) → Sound k l s → Above k n s t → M.Above n (s .warp) (t .warp) × Sound k l t
+above : (k : List ℕ) (l : Launch) (n : ℕ) (s t : State) → Sound k l s → Above k n s t → M.OpenAbove n (s .warp) (t .warp) × Sound k l t
 above k l n s t g (here a) = (M.here a, g)
 above k l n s t g (on {t = u} p m a) =
     let h = above k l n s u g p in
     (M.on (h .0) (carried k u t (fit k l u (h .1)) m .moves) a, goes-sound k l u t (h .1) m)
 
-last-above : (n : ℕ) (w u : Warp) → M.Above n w u → n < u .depth
+last-above : (n : ℕ) (w u : Warp) → M.OpenAbove n w u → n < u .depth
 last-above n w u (M.here a) = a
 last-above n w u (M.on p m a) = a
 
@@ -245,5 +245,5 @@ restored k l s a b t r q d p m f =
     let z : M.Moves (b .warp) (t .warp) = carried k b t (fit k l b (h .1)) m .moves in
     (omega (arith, closes-one (b .warp) (t .warp) z, last-above _ _ _ (h .0)), back (wide k l s a g q d) (h .0) z)
   where
-    back : Widens (s .warp) (a .warp) → M.Above (s .warp .depth) (a .warp) (b .warp) → M.Moves (b .warp) (t .warp) → t .warp .mask ≡ s .warp .mask
-    back (widens e o c u) x z = M.restored e o (s .warp) (b .warp) (t .warp) (held-at k l s (reached-sound k l s r)) c (rw u at x) z f
+    back : Widens (s .warp) (a .warp) → M.OpenAbove (s .warp .depth) (a .warp) (b .warp) → M.Moves (b .warp) (t .warp) → t .warp .mask ≡ s .warp .mask
+    back (widens e o c u) x z = M.mask-restored e o (s .warp) (b .warp) (t .warp) (held-at k l s (reached-sound k l s r)) c (rw u at x) z f

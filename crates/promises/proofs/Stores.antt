@@ -16,6 +16,8 @@ use Rattle.isa.specs.declared.Space.{Space}
 use Rattle.isa.specs.declared.StoreOp.{StoreOp}
 use Rattle.isa.specs.declared.XReg.{XReg}
 use Rattle.isa.specs.declared.VReg.{VReg}
+use Rattle.lanes.specs.declared.Lane.{Lane}
+use Rattle.lanes.specs.Mask.{lane as nth}
 use Rattle.lanes.specs.Lanes.{laneOf}
 use Rattle.lanes.proofs.Laws.{newest}
 use Rattle.memory.specs.Memory.{Memory, widthOf, insideOf, indexIn}
@@ -30,26 +32,26 @@ use Rattle.promises.specs.Written.{byteAt, Becomes, stays, byScalar, byL
 
 -- ---- active lanes
 
-pub active-of : (m : State) (l : ℕ) → l < fixedOf m .numt → active m l ≡ true → isActive m l ≡ true
-active-of m l h t = rw (lt-ltb l (fixedOf m .numt) h, t)
+pub active-of : (m : State) (l : Lane) → l .0 < fixedOf m .numt → active m l ≡ true → isActive m l ≡ true
+active-of m l h t = rw (lt-ltb (l .0) (fixedOf m .numt) h, t)
 
-pub active-below : (m : State) (l : ℕ) → isActive m l ≡ true → (l < fixedOf m .numt) × (active m l ≡ true)
+pub active-below : (m : State) (l : Lane) → isActive m l ≡ true → (l .0 < fixedOf m .numt) × (active m l ≡ true)
 active-below m l e =
-    let p = both (ltb l (fixedOf m .numt)) (active m l) e in
-    (ltb-true l (fixedOf m .numt) (p .0), p .1)
+    let p = both (ltb (l .0) (fixedOf m .numt)) (active m l) e in
+    (ltb-true (l .0) (fixedOf m .numt) (p .0), p .1)
 
 -- ---- the highest lane of those that a test picks
 
-data Highest (p : ℕ → Bool) (n : ℕ) : Type 0 where
-  none : ((l : ℕ) → l < n → p l ≡ false) → Highest p n
-  top : (l : ℕ) → l < n → p l ≡ true → ((h : ℕ) → l < h → h < n → p h ≡ false) → Highest p n
+data Highest (p : Lane → Bool) (n : ℕ) : Type 0 where
+  none : ((l : Lane) → l .0 < n → p l ≡ false) → Highest p n
+  top : (l : Lane) → l .0 < n → p l ≡ true → ((h : Lane) → l .0 < h .0 → h .0 < n → p h ≡ false) → Highest p n
 
-highest : (p : ℕ → Bool) (n : ℕ) → Highest p n
+highest : (p : Lane → Bool) (n : ℕ) → Highest p n
 highest p zero = none (λ l h. absurd (omega arith))
-highest p (suc n) = turn (p n) refl (highest p n)
+highest p (suc n) = turn (p (nth n)) refl (highest p n)
   where
-    turn : (t : Bool) → p n ≡ t → Highest p n → Highest p (suc n)
-    turn true e x = top n (le-refl (suc n)) e (λ h a b. absurd (omega arith))
+    turn : (t : Bool) → p (nth n) ≡ t → Highest p n → Highest p (suc n)
+    turn true e x = top (nth n) (le-refl (suc n)) e (λ h a b. absurd (omega arith))
     turn false e (none f) = none (λ l h. ⊎-elim (λ q. ap p q ∙ e) (f l) (newest h))
     turn false e (top l b t f) = top l (lt-of-lt-of-le b (le-suc n)) t (λ h a c. ⊎-elim (λ q. ap p q ∙ e) (f h a) (newest c))
 
@@ -77,7 +79,7 @@ becomes-stays m a old new i (byLane s k x y n l t h f e) o = absurd (o (lane s k
 untouched : (m : State) (a : ℕ) (k : StoreOp) (x y : XReg) (n : ℕ) → (Has (widthOf k) (scalarAt x n m) a → ⊥) → Touches m a (I.Store k x y n) → ⊥
 untouched m a k x y n o (scalar k1 x1 y1 n1 h) = o h
 
-untouched-lanes : (m : State) (a : ℕ) (s : Space) (k : StoreOp) (x y : VReg) (n : ℕ) → ((l : ℕ) → isActive m l ≡ true → Has (widthOf k) (laneAt s x n m l) a → ⊥)
+untouched-lanes : (m : State) (a : ℕ) (s : Space) (k : StoreOp) (x y : VReg) (n : ℕ) → ((l : Lane) → isActive m l ≡ true → Has (widthOf k) (laneAt s x n m l) a → ⊥)
     → Touches m a (I.VStore s k x y n) → ⊥
 untouched-lanes m a s k x y n o (lane s1 k1 x1 y1 n1 l t h) = o l t h
 
@@ -131,17 +133,17 @@ module _ (m : State) (j : ℕ) where
       w : ℕ
       w = widthOf k
 
-      at : ℕ → ℕ
+      at : Lane → ℕ
       at = laneAt s x n m
 
-      picks : ℕ → Bool
+      picks : Lane → Bool
       picks l = active m l && hasOf w (at l) A
 
-      fits : (l : ℕ) → l < N → active m l ≡ true → insideOf M w (at l) ≡ true
+      fits : (l : Lane) → l .0 < N → active m l ≡ true → insideOf M w (at l) ≡ true
       fits = all-inside-at N (active m) M w at (sym (lanes-inside m s k x y n e))
 
       -- a lane that is not picked makes no access there
-      no : (l : ℕ) → picks l ≡ false → active m l ≡ true → Has w (at l) A → ⊥
+      no : (l : Lane) → picks l ≡ false → active m l ≡ true → Has w (at l) A → ⊥
       no l f t h =
           let z : picks l ≡ true = rw (t, true-has w (at l) A h) in
           true≢false (sym z ∙ f)
@@ -159,13 +161,13 @@ module _ (m : State) (j : ℕ) where
           (λ i g d u p q. no i (f i g d) u (omega (arith, h .0), omega (arith, h .0)))))
 
 -- ---- what a byte becomes is one byte: the statement leaves no choice
-lane-one : (l h : ℕ) → (l < h → ⊥) → (h < l → ⊥) → l ≡ h
-lane-one l h a b = by (ltb l h) (ltb h l) refl refl
+lane-one : (l h : Lane) → (l .0 < h .0 → ⊥) → (h .0 < l .0 → ⊥) → l ≡ h
+lane-one l h a b = ap nth (by (ltb (l .0) (h .0)) (ltb (h .0) (l .0)) refl refl)
   where
-    by : (s t : Bool) → ltb l h ≡ s → ltb h l ≡ t → l ≡ h
-    by true t p q = absurd (a (ltb-true l h p))
-    by false true p q = absurd (b (ltb-true h l q))
-    by false false p q = omega (arith, ltb-false l h p, ltb-false h l q)
+    by : (s t : Bool) → ltb (l .0) (h .0) ≡ s → ltb (h .0) (l .0) ≡ t → l .0 ≡ h .0
+    by true t p q = absurd (a (ltb-true (l .0) (h .0) p))
+    by false true p q = absurd (b (ltb-true (h .0) (l .0) q))
+    by false false p q = omega (arith, ltb-false (l .0) (h .0) p, ltb-false (h .0) (l .0) q)
 
 pub becomes-one : (m : State) (a old x y : ℕ) (i : Instr) → Becomes m a old x i → Becomes m a old y i → x ≡ y
 becomes-one m a old x y i (stays t e) (stays u f) = e ∙ sym f
@@ -175,4 +177,4 @@ becomes-one m a old x y i (byScalar k p q n h e) (stays u f) = absurd (u (scalar
 becomes-one m a old x y i (byScalar k p q n h e) (byScalar k1 p1 q1 n1 h1 f) = e ∙ sym f
 becomes-one m a old x y i (byLane s k p q n l c h o e) (stays u f) = absurd (u (lane s k p q n l c h))
 becomes-one m a old x y i (byLane s k p q n l c h o e) (byLane s1 k1 p1 q1 n1 l1 c1 h1 o1 f) =
-    e ∙ ap (λ (b : ℕ). byteAt k (laneAt s p n m b) (laneOf (m .vector) q b) a) (lane-one l l1 (λ b. o l1 b c1 h1) (λ b. o1 l b c h)) ∙ sym f
+    e ∙ ap (λ (b : Lane). byteAt k (laneAt s p n m b) (laneOf (m .vector) q b) a) (lane-one l l1 (λ b. o l1 b c1 h1) (λ b. o1 l b c h)) ∙ sym f

@@ -6,6 +6,7 @@ use mathlib.Core.List.{List, [], _∷_}
 use lib.Dec.{eqb}
 use lib.ListN.{getD}
 use Rattle.answer.specs.Rows.{Row, _⇒_, first}
+use Rattle.word.specs.Word.{extendOf}
 use Rattle.isa.specs.declared.Instr.{Instr}
 use Rattle.isa.specs.declared.Instr.the-variants as I
 use Rattle.isa.specs.declared.Source.{Source}
@@ -14,6 +15,7 @@ use Rattle.isa.specs.declared.Space.{Space}
 use Rattle.isa.specs.declared.VReg.{VReg}
 use Rattle.lanes.specs.Lanes.{laneOf, operandOf, opLane}
 use Rattle.lanes.specs.declared.Operand.{Operand}
+use Rattle.lanes.specs.declared.Lane.{Lane}
 use Rattle.lanes.proofs.Laws.{lane-only, operand-only, uniform-only, value-only}
 use Rattle.lanes.proofs.MaskLaws.{wants-only}
 use Rattle.memory.specs.Memory.{sizeOf, widthOf}
@@ -24,7 +26,7 @@ use Rattle.warp.specs.Warp.{next, writeX}
 use Rattle.warp.specs.Splits.{parted}
 use Rattle.definition.specs.State.{State, fixedOf, active, pcBy, memoryOf, laneAt, privateIn, elseOf}
 use Rattle.definition.specs.Refuse.{astray, refusalsOf}
-use Rattle.definition.specs.Exec.{Effect, goes, writes, stores, effectOf, sourceOf, loaded}
+use Rattle.definition.specs.Exec.{Effect, goes, writes, stores, effectOf, immediateOf, sourceOf, loaded}
 use Rattle.promises.specs.Lanes.{SameLane, withFile}
 use Rattle.promises.specs.Written.{Becomes, Gives, operation, move, scalar, number, load}
 use Rattle.promises.proofs.Stores.{scalar-becomes, lanes-become}
@@ -32,17 +34,17 @@ use Rattle.promises.proofs.Stores.{scalar-becomes, lanes-become}
 module _ (m : State) (u : List ℕ) where
   -- the files are the same in every active lane
   abbrev pub Same : Type 0
-  Same = (l : ℕ) → l < fixedOf m .numt → active m l ≡ true → SameLane l (m .vector) u
+  Same = (l : Lane) → l .0 < fixedOf m .numt → active m l ≡ true → SameLane l (m .vector) u
 
   -- where no test of i holds, the bytes d are what i's store makes of those before
-  abbrev pub Leaves : Instr → List ℕ → Type 0
-  Leaves i d = first (refusalsOf i m) ≡ 0 → (j : ℕ) → Becomes m (memoryOf m .base + j) (getD (m .bytes) j 0) (getD d j 0) i
+  abbrev pub EffectLeaves : Instr → List ℕ → Type 0
+  EffectLeaves i d = first (refusalsOf i m) ≡ 0 → (j : ℕ) → Becomes m (memoryOf m .base + j) (getD (m .bytes) j 0) (getD d j 0) i
 
   -- i's effect with the file of m, and with u
   pub data Twin (i : Instr) : Effect → Effect → Type 0 where
     moves : {a b : Warp} → (Same → a ≡ b) → Twin i (goes a) (goes b)
-    gives : {r : VReg} {f g : ℕ → ℕ} → ((l : ℕ) → Gives m l i r (f l)) → ((l : ℕ) → SameLane l (m .vector) u → f l ≡ g l) → Twin i (writes (active m) r f) (writes (active m) r g)
-    saves : {d e : List ℕ} → Leaves i d → (Same → d ≡ e) → Twin i (stores d) (stores e)
+    gives : {r : VReg} {f g : Lane → ℕ} → ((l : Lane) → Gives m l i r (f l)) → ((l : Lane) → SameLane l (m .vector) u → f l ≡ g l) → Twin i (writes (active m) r f) (writes (active m) r g)
+    stores-both : {d e : List ℕ} → EffectLeaves i d → (Same → d ≡ e) → Twin i (stores d) (stores e)
 
   -- and its rows
   pub record Seen (i : Instr) (rs us : List (Row Bool)) (a b : Effect) : Type 0 where
@@ -53,16 +55,16 @@ module _ (m : State) (u : List ℕ) where
   idle : {i : Instr} {rs : List (Row Bool)} {a : Warp} → Seen i rs rs (goes a) (goes a)
   idle = record { rows = λ s. refl; twin = moves (λ s. refl) }
 
-  fills : {i : Instr} {r : VReg} {f g : ℕ → ℕ} → ((l : ℕ) → Gives m l i r (f l)) → ((l : ℕ) → SameLane l (m .vector) u → f l ≡ g l) → Seen i [] [] (writes (active m) r f) (writes (active m) r g)
+  fills : {i : Instr} {r : VReg} {f g : Lane → ℕ} → ((l : Lane) → Gives m l i r (f l)) → ((l : Lane) → SameLane l (m .vector) u → f l ≡ g l) → Seen i [] [] (writes (active m) r f) (writes (active m) r g)
   fills w o = record { rows = λ s. refl; twin = gives w o }
 
   -- a scalar register or an immediate is the same with any file
-  source-same : (e : Source) → sourceOf e m ≡ sourceOf e (withFile u m)
-  source-same (From.V r) = refl
-  source-same (From.X r) = refl
-  source-same (From.I i) = refl
+  source-same : (f : ℕ → ℕ) (e : Source) → sourceOf f e m ≡ sourceOf f e (withFile u m)
+  source-same f (From.V r) = refl
+  source-same f (From.X r) = refl
+  source-same f (From.I i) = refl
 
-  at-same : (e : Space) (a : VReg) (o l : ℕ) → SameLane l (m .vector) u → laneAt e a o m l ≡ laneAt e a o (withFile u m) l
+  at-same : (e : Space) (a : VReg) (o : ℕ) (l : Lane) → SameLane l (m .vector) u → laneAt e a o m l ≡ laneAt e a o (withFile u m) l
   at-same e a o l s = address-only e (privateIn (fixedOf m)) (m .vector) u a o l (s a)
 
   abbrev inside : Space → VReg → ℕ → ℕ → State → Bool
@@ -87,15 +89,15 @@ module _ (m : State) (u : List ℕ) where
   seen (I.Store k a b n) =
       record {
         rows = λ s. refl;
-        twin = saves (λ h j. scalar-becomes m j k a b n h) (λ s. refl);
+        twin = stores-both (λ h j. scalar-becomes m j k a b n h) (λ s. refl);
       }
   seen (I.OpImm o r a n) = idle
   seen (I.OpReg o r a b) = idle
   seen (I.Fence r a n) = idle
   seen (I.Csr o r a n) = idle
   seen (I.CsrImm o r i n) = idle
-  seen (I.Vector o a) = fills (λ l. operation o a) (λ l s. lane-only l (m .vector) u s o (a .vs2) (sourceOf (a .src) m) ∙ ap (λ (b : Operand). opLane o u (a .vs2) b l) (source-same (a .src)))
-  seen (I.VMove r e) = fills (λ l. move r e) (λ l s. operand-only l (m .vector) u s (sourceOf e m) ∙ ap (λ (b : Operand). operandOf u b l) (source-same e))
+  seen (I.Vector o a) = fills (λ l. operation o a) (λ l s. lane-only l (m .vector) u s o (a .vs2) (sourceOf (immediateOf o) (a .src) m) ∙ ap (λ (b : Operand). opLane o u (a .vs2) b l) (source-same (immediateOf o) (a .src)))
+  seen (I.VMove r e) = fills (λ l. move r e) (λ l s. operand-only l (m .vector) u s (sourceOf (extendOf 5) e m) ∙ ap (λ (b : Operand). operandOf u b l) (source-same (extendOf 5) e))
   seen (I.VMoveXS r b) =
       record {
         rows = λ s. ap (λ (t : Bool). 10 ⇒ not t ∷ []) (uniform-only (fixedOf m .numt) (active m) (laneOf (m .vector) b) (laneOf u b) (λ l h t. s l h t b));
@@ -117,7 +119,7 @@ module _ (m : State) (u : List ℕ) where
   seen (I.VStore e k a b n) =
       record {
         rows = λ s. ap nine (inside-same e a n (widthOf k) s);
-        twin = saves
+        twin = stores-both
             (λ h j. lanes-become m j e k a b n h)
             (λ s. store-only (fixedOf m .numt) (active m) (memoryOf m) (laneAt e a n m) (laneAt e a n (withFile u m)) (λ l h t. at-same e a n l (s l h t)) k
             (laneOf (m .vector) b) (laneOf u b) (λ l h t. s l h t b));

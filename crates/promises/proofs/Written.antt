@@ -14,6 +14,7 @@ use Rattle.isa.specs.declared.Instr.{Instr}
 use Rattle.isa.specs.declared.Instr.the-variants as I
 use Rattle.isa.specs.declared.XReg.{XReg}
 use Rattle.isa.specs.declared.VReg.{VReg}
+use Rattle.lanes.specs.declared.Lane.{Lane}
 use Rattle.lanes.specs.Lanes.{lanesMax, registers, fileWords, laneOf, valueOf, uniformOf}
 use Rattle.lanes.proofs.Laws.{write-at, write-apart, uniform-at, uniform-when}
 use Rattle.warp.specs.declared.Warp.{Warp}
@@ -27,12 +28,12 @@ use Rattle.definition.specs.Exec.{Effect, goes, writes, stores, effect, effectO
 use Rattle.definition.specs.Step.{stepOf}
 use Rattle.definition.proofs.Sizes.{sizes}
 use Rattle.definition.proofs.Sound.{step-clear, step-taken}
-use Rattle.definition.proofs.Tests.{step-table}
+use Rattle.definition.proofs.Tests.{step-rows}
 use Rattle.promises.specs.Lanes.{isActive, Touches, scalar, lane}
 use Rattle.promises.specs.Written as W
 use Rattle.promises.specs.Written.{Becomes, stays, Gives, Written, LaneWords, OneValue, MoveShares}
 use Rattle.promises.proofs.Stores.{active-of, active-below}
-use Rattle.promises.proofs.Twins.{Twin, moves, gives, saves, seen}
+use Rattle.promises.proofs.Twins.{Twin, moves, gives, stores-both, seen}
 
 -- ---- each byte
 
@@ -50,7 +51,7 @@ written-by : (m : State) (u : List ℕ) (i : Instr) (a b : Effect) → effectOf 
     → (j : ℕ) → Becomes m (memoryOf m .base + j) (getD (m .bytes) j 0) (getD (effect a m .bytes) j 0) i
 written-by m u i a b q z (moves e) j = stays (λ t. true≢false (sym (touches-store m _ i t) ∙ ap isStore q)) refl
 written-by m u i a b q z (gives w e) j = stays (λ t. true≢false (sym (touches-store m _ i t) ∙ ap isStore q)) refl
-written-by m u i a b q z (saves t e) j = t z j
+written-by m u i a b q z (stores-both t e) j = t z j
 
 pub written : Written
 written k m z j =
@@ -64,12 +65,12 @@ unfolding wellFormedOf
 fixed-of w e = fixed-ok (w .fixed) (both (fixedOkOf (w .fixed)) _ e .0)
 
 -- the effect of an instruction that gives register r words: f l is lane l's
-record Filled (m : State) (l : ℕ) (i : Instr) (r : VReg) (y : ℕ) : Type 0 where
-  words : ℕ → ℕ
+record Filled (m : State) (l : Lane) (i : Instr) (r : VReg) (y : ℕ) : Type 0 where
+  words : Lane → ℕ
   is : effectOf i m ≡ writes (active m) r words
   at : words l ≡ y
 
-filled : (m : State) (l : ℕ) (i : Instr) (r : VReg) (y : ℕ) → Gives m l i r y → Filled m l i r y
+filled : (m : State) (l : Lane) (i : Instr) (r : VReg) (y : ℕ) → Gives m l i r y → Filled m l i r y
 unfolding effectOf
 filled m l i r y (W.operation o a) = record { words = _; is = refl; at = refl }
 filled m l i r y (W.move c s) = record { words = _; is = refl; at = refl }
@@ -77,12 +78,12 @@ filled m l i r y (W.scalar c a) = record { words = _; is = refl; at = refl }
 filled m l i r y (W.number c) = record { words = _; is = refl; at = refl }
 filled m l i r y (W.load s k c a n) = record { words = _; is = refl; at = refl }
 
-others-by : (m : State) (u : List ℕ) (i : Instr) (a b : Effect) → fixedOf m .numt ≤ lanesMax → (l : ℕ) → l < lanesMax → Twin m u i a b
+others-by : (m : State) (u : List ℕ) (i : Instr) (a b : Effect) → fixedOf m .numt ≤ lanesMax → (l : Lane) → l .0 < lanesMax → Twin m u i a b
     → (r : VReg) → ((y : ℕ) → Gives m l i r y → ⊥) → laneOf (effect a m .vector) r l ≡ laneOf (m .vector) r l
 others-by m u i a b n l h (moves e) r o = refl
 others-by m u i a b n l h (gives {r = c} {f = f} w e) r o =
     write-apart (active m) c f (m .vector) (fixedOf m .numt) n r l h (λ q. o (f l) (subst (λ (x : ℕ). Gives m l i (record { 0 = x }) (f l)) (sym q) (w l)))
-others-by m u i a b n l h (saves t e) r o = refl
+others-by m u i a b n l h (stores-both t e) r o = refl
 
 pub lane-words : LaneWords
 lane-words k m z l a = record { given = given; others = λ r o. rw (step-taken k m z) (others-by m (m .vector) _ _ _ lanes l below (seen m (m .vector) (instrAt k m) .twin) r o) }
@@ -90,7 +91,7 @@ lane-words k m z l a = record { given = given; others = λ r o. rw (step-taken k
     lanes : fixedOf m .numt ≤ lanesMax
     lanes = fixed-of (m .warp) (step-clear k m z .formed) .lanes .1
 
-    below : l < lanesMax
+    below : l .0 < lanesMax
     below = lt-of-lt-of-le (active-below m l a .0) lanes
 
     long : length (m .vector) ≡ fileWords
@@ -112,7 +113,7 @@ one-value m f = record {
   value = λ u l a. sym (shared u l a);
 }
   where
-    shared : not (uniformOf (fixedOf m .numt) (active m) f) ≡ false → (l : ℕ) → isActive m l ≡ true → f l ≡ valueOf (fixedOf m .numt) (active m) f
+    shared : not (uniformOf (fixedOf m .numt) (active m) f) ≡ false → (l : Lane) → isActive m l ≡ true → f l ≡ valueOf (fixedOf m .numt) (active m) f
     shared u l a = let p = active-below m l a in uniform-at (fixedOf m .numt) (active m) f (sym (not-false _ u)) l (p .0) (p .1)
 
 -- the row of vmv.x.s
@@ -121,7 +122,7 @@ silent-ten true = (λ e. absurd (omega arith), λ e. absurd (true≢false e))
 silent-ten false = (λ e. refl, λ e. refl)
 
 module _ (k : List ℕ) (m : State) (r : XReg) (b : VReg) (is : instrAt k m ≡ I.VMoveXS r b) where
-  abbrev words : ℕ → ℕ
+  abbrev words : Lane → ℕ
   words = laneOf (m .vector) b
 
   own : first (refusalsOf (instrAt k m) m) ≡ first (10 ⇒ mixed words m ∷ [])
@@ -129,7 +130,7 @@ module _ (k : List ℕ) (m : State) (r : XReg) (b : VReg) (is : instrAt k m ≡ 
   own = ap (λ (i : Instr). first (refusalsOf i m)) is
 
   answer : first (stepTests k m) ≡ 0 → stepOf k m .code ≡ first (10 ⇒ mixed words m ∷ [])
-  answer z = step-table k m ∙ first-silent (stepTests k m) (refusalsOf (instrAt k m) m) (zero-silent (stepTests k m) refl z) ∙ own
+  answer z = step-rows k m ∙ first-silent (stepTests k m) (refusalsOf (instrAt k m) m) (zero-silent (stepTests k m) refl z) ∙ own
 
   moved : (r .0 ≡ 0 → ⊥) → r .0 < length (m .warp .x) → readX r (effect (effectOf (I.VMoveXS r b) m) m .warp) ≡ valueOf (fixedOf m .numt) (active m) words
   unfolding effectOf

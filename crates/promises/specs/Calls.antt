@@ -8,7 +8,7 @@ use Rattle.definition.specs.State.{state, Outcome, outcome}
 use Rattle.definition.specs.Step.{stepOf}
 use Rattle.definition.specs.Calls.{Ran, ran, launchOf, runOf, releaseOf}
 use Rattle.machine.specs.declared.Left.{Left}
-use Rattle.machine.specs.declared.Ran as code
+use Rattle.machine.specs.declared.RunLeft.{RunLeft}
 use Rattle.promises.specs.Determined.{DeterminedWhole}
 
 -- a launch's or a step's result, with the lent runs afterwards
@@ -18,7 +18,7 @@ pub record Leaves : Type 0 where
   pub bytes : List ℕ
 
 pub record RunLeaves : Type 0 where
-  pub result : code.Ran
+  pub result : RunLeft
   pub vector : List ℕ
   pub bytes : List ℕ
 

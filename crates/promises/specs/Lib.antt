@@ -1,13 +1,8 @@
 pub mod Reached
 pub mod Splits
-pub mod Bound
 pub mod Lanes
 pub mod Written
 pub mod Runs
 pub mod Refusals
 pub mod Determined
-pub mod Machine
-pub mod Trace
-pub mod Worked
-pub mod Duds
 pub mod Calls

@@ -14,15 +14,15 @@ use Rattle.definition.specs.Step.{stepOf}
 use Rattle.definition.specs.Calls.{launchOf, releaseOf}
 
 -- from s on: a step that was taken; a release that was answered 0; the host changes the contents of vector file and data between two calls, and no size
-pub data Goes (k : List ℕ) (s : State) : State → Type 0 where
-  steps : {t : State} → stepOf k s ≡ outcome 0 t → Goes k s t
-  releases : {w : Warp} → releaseOf (s .warp) ≡ answered 0 w → Goes k s (state w (s .vector) (s .bytes))
-  changes : {v d : List ℕ} → length v ≡ length (s .vector) → length d ≡ length (s .bytes) → Goes k s (state (s .warp) v d)
+pub data GoesOn (k : List ℕ) (s : State) : State → Type 0 where
+  steps : {t : State} → stepOf k s ≡ outcome 0 t → GoesOn k s t
+  releases : {w : Warp} → releaseOf (s .warp) ≡ answered 0 w → GoesOn k s (state w (s .vector) (s .bytes))
+  changes : {v d : List ℕ} → length v ≡ length (s .vector) → length d ≡ length (s .bytes) → GoesOn k s (state (s .warp) v d)
 
 -- what the launch l reaches with the kernel k
 pub data Reached (k : List ℕ) (l : Launch) : State → Type 0 where
   launched : {s : State} (v d : List ℕ) → launchOf k l v d ≡ outcome 0 s → Reached k l s
-  goes : {s t : State} → Reached k l s → Goes k s t → Reached k l t
+  goes : {s t : State} → Reached k l s → GoesOn k s t → Reached k l t
 
 -- ---- promises
 

@@ -7,6 +7,7 @@ use Rattle.answer.specs.Rows.{Iff}
 use Rattle.word.specs.declared.Cond.{Cond}
 use Rattle.isa.specs.declared.VReg.{VReg}
 use Rattle.isa.specs.declared.Instr.the-variants as I
+use Rattle.lanes.specs.declared.Lane.{Lane}
 use Rattle.lanes.specs.Mask.{bitAt}
 use Rattle.warp.specs.declared.Launch.{Launch}
 use Rattle.warp.specs.Warp.{splitCount, nextPc}
@@ -14,7 +15,7 @@ use Rattle.warp.specs.Splits.{opened, lastSplit}
 use Rattle.warp.specs.Parked.{parkedIn, CutInTwo}
 use Rattle.definition.specs.State.{State, outcome, pcBy, elseOf, instrAt}
 use Rattle.definition.specs.Step.{stepOf}
-use Rattle.promises.specs.Reached.{Goes, Reached}
+use Rattle.promises.specs.Reached.{GoesOn, Reached}
 
 -- the word at the PC is a VBRANCH over which the active lanes disagree: some want the else PC, and not all
 pub record Disagree (k : List ℕ) (s : State) : Type 0 where
@@ -32,7 +33,7 @@ pub record Opens (k : List ℕ) (s t : State) : Type 0 where
   pub by : Disagree k s
   pub split : lastSplit (t .warp) ≡ opened (elseOf (by .cond) (by .left) (by .right) s) (pcBy 13 (by .offset) s) (s .warp)
   -- the active mask is cut in two non-empty masks that share no lane and together are that mask: the else mask, and the mask that runs
-  pub cut : CutInTwo (s .warp .mask) (lastSplit (t .warp) .elsemask) (t .warp .mask)
+  pub cut : CutInTwo (s .warp .mask) (lastSplit (t .warp) .elseMask) (t .warp .mask)
   -- the lanes that go to PC + 4 run first
   pub first : t .warp .pc ≡ nextPc (s .warp)
 
@@ -58,11 +59,11 @@ SplitWhen = (k : List ℕ) (l : Launch) (s t : State) → Reached k l s → step
 abbrev pub Covered : Type 0
 Covered =
     (k : List ℕ) (l : Launch) (s : State) → Reached k l s
-    → (i : ℕ) → bitAt i (s .warp .mask) + parkedIn i (s .warp .splits) (s .warp .depth) ≡ bitAt i (l .fixed .launchmask)
+    → (i : Lane) → bitAt (i .0) (s .warp .mask) + parkedIn i (s .warp .splits) (s .warp .depth) ≡ bitAt (i .0) (l .fixed .launchMask)
 
 -- Fewer splits are open than lanes were launched.
 abbrev pub Fewer : Type 0
-Fewer = (k : List ℕ) (l : Launch) (s : State) → Reached k l s → s .warp .depth < ones (l .fixed .launchmask)
+Fewer = (k : List ℕ) (l : Launch) (s : State) → Reached k l s → s .warp .depth < ones (l .fixed .launchMask)
 
 -- No more splits are open than there are records.
 abbrev pub AtMost : Type 0
@@ -74,17 +75,17 @@ Room = (k : List ℕ) (l : Launch) (s : State) → Reached k l s → Disagree k 
 
 -- One launched lane never opens a split.
 abbrev pub OneLane : Type 0
-OneLane = (k : List ℕ) (l : Launch) (s : State) → Reached k l s → ones (l .fixed .launchmask) ≡ 1 → s .warp .depth ≡ 0
+OneLane = (k : List ℕ) (l : Launch) (s : State) → Reached k l s → ones (l .fixed .launchMask) ≡ 1 → s .warp .depth ≡ 0
 
 -- any number of taken steps, answered releases and changes by the host from s to t, through all of which more than n splits are open
 pub data Above (k : List ℕ) (n : ℕ) : State → State → Type 0 where
   here : {s : State} → n < s .warp .depth → Above k n s s
-  on : {s t u : State} → Above k n s t → Goes k t u → n < u .warp .depth → Above k n s u
+  on : {s t u : State} → Above k n s t → GoesOn k t u → n < u .warp .depth → Above k n s u
 
 -- When the count of open splits first falls back to what it was before a split, the mask is the one held just before it: from s a step to a opens a split,
 -- up to b it stays open, and from b to t the count falls.
 abbrev pub Restored : Type 0
 Restored =
     (k : List ℕ) (l : Launch) (s a b t : State) → Reached k l s → stepOf k s ≡ outcome 0 a → s .warp .depth < a .warp .depth
-    → Above k (s .warp .depth) a b → Goes k b t → t .warp .depth ≤ s .warp .depth
+    → Above k (s .warp .depth) a b → GoesOn k b t → t .warp .depth ≤ s .warp .depth
     → (t .warp .depth ≡ s .warp .depth) × (t .warp .mask ≡ s .warp .mask)

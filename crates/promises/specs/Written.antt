@@ -5,7 +5,7 @@ use mathlib.Core.Bool.{true, false}
 use mathlib.Core.List.{List}
 use lib.ListN.{length, getD}
 use Rattle.answer.specs.Rows.{first, Iff}
-use Rattle.word.specs.Word.{applyOf}
+use Rattle.word.specs.Word.{applyOf, extendOf}
 use Rattle.word.specs.declared.Op.{Op}
 use Rattle.isa.specs.declared.Instr.{Instr}
 use Rattle.isa.specs.declared.Instr.the-variants as I
@@ -16,13 +16,14 @@ use Rattle.isa.specs.declared.StoreOp.{StoreOp}
 use Rattle.isa.specs.declared.VecArgs.{VecArgs}
 use Rattle.isa.specs.declared.XReg.{XReg}
 use Rattle.isa.specs.declared.VReg.{VReg}
+use Rattle.lanes.specs.declared.Lane.{Lane}
 use Rattle.lanes.specs.Lanes.{registers, laneOf, operandOf, valueOf}
 use Rattle.memory.specs.Bytes.{leBytes}
 use Rattle.memory.specs.Memory.{widthOf, loadOf}
 use Rattle.warp.specs.Warp.{readX}
 use Rattle.definition.specs.State.{State, fixedOf, active, xOf, memoryOf, scalarAt, laneAt, instrAt}
 use Rattle.definition.specs.Refuse.{mixed, stepTests}
-use Rattle.definition.specs.Exec.{sourceOf}
+use Rattle.definition.specs.Exec.{immediateOf, sourceOf}
 use Rattle.definition.specs.Step.{stepOf}
 use Rattle.promises.specs.Lanes.{isActive, Has, Touches}
 
@@ -37,28 +38,28 @@ byteAt k b x a = getD (leBytes (widthOf k) x) (a - b) 0
 pub data Becomes (m : State) (a old new : ℕ) : Instr → Type 0 where
   stays : {i : Instr} → (Touches m a i → ⊥) → new ≡ old → Becomes m a old new i
   byScalar : (k : StoreOp) (x y : XReg) (n : ℕ) → Has (widthOf k) (scalarAt x n m) a → new ≡ byteAt k (scalarAt x n m) (xOf y m) a → Becomes m a old new (I.Store k x y n)
-  byLane : (s : Space) (k : StoreOp) (x y : VReg) (n l : ℕ) → isActive m l ≡ true → Has (widthOf k) (laneAt s x n m l) a
-      → ((h : ℕ) → l < h → isActive m h ≡ true → Has (widthOf k) (laneAt s x n m h) a → ⊥)
+  byLane : (s : Space) (k : StoreOp) (x y : VReg) (n : ℕ) (l : Lane) → isActive m l ≡ true → Has (widthOf k) (laneAt s x n m l) a
+      → ((h : Lane) → l .0 < h .0 → isActive m h ≡ true → Has (widthOf k) (laneAt s x n m h) a → ⊥)
       → new ≡ byteAt k (laneAt s x n m l) (laneOf (m .vector) y l) a → Becomes m a old new (I.VStore s k x y n)
 
 -- ---- lanes
 
 -- the instruction gives register r of lane l the word y; no other instruction writes a vector register
-pub data Gives (m : State) (l : ℕ) : Instr → VReg → ℕ → Type 0 where
-  operation : (o : Op) (a : VecArgs) → Gives m l (I.Vector o a) (a .vd) (applyOf o (laneOf (m .vector) (a .vs2) l) (operandOf (m .vector) (sourceOf (a .src) m) l))
-  move : (r : VReg) (s : Source) → Gives m l (I.VMove r s) r (operandOf (m .vector) (sourceOf s m) l)
+pub data Gives (m : State) (l : Lane) : Instr → VReg → ℕ → Type 0 where
+  operation : (o : Op) (a : VecArgs) → Gives m l (I.Vector o a) (a .vd) (applyOf o (laneOf (m .vector) (a .vs2) l) (operandOf (m .vector) (sourceOf (immediateOf o) (a .src) m) l))
+  move : (r : VReg) (s : Source) → Gives m l (I.VMove r s) r (operandOf (m .vector) (sourceOf (extendOf 5) s m) l)
   scalar : (r : VReg) (a : XReg) → Gives m l (I.VMoveSX r a) r (xOf a m)
-  number : (r : VReg) → Gives m l (I.Vid r) r l
+  number : (r : VReg) → Gives m l (I.Vid r) r (l .0)
   load : (s : Space) (k : LoadOp) (r a : VReg) (n : ℕ) → Gives m l (I.VLoad s k r a n) r (loadOf k (memoryOf m) (laneAt s a n m l))
 
 -- lane l's words in the vector file v, after the instruction: what it gives, and every other word as before
-pub record LaneLeft (m : State) (i : Instr) (l : ℕ) (v : List ℕ) : Type 0 where
+pub record LaneLeft (m : State) (i : Instr) (l : Lane) (v : List ℕ) : Type 0 where
   pub given : (r : VReg) (y : ℕ) → r .0 < registers → Gives m l i r y → laneOf v r l ≡ y
   pub others : (r : VReg) → ((y : ℕ) → Gives m l i r y → ⊥) → laneOf v r l ≡ laneOf (m .vector) r l
 
 -- any two active lanes' words are equal
-abbrev pub AllEqual : State → (ℕ → ℕ) → Type 0
-AllEqual m f = (l h : ℕ) → isActive m l ≡ true → isActive m h ≡ true → f l ≡ f h
+abbrev pub AllEqual : State → (Lane → ℕ) → Type 0
+AllEqual m f = (l h : Lane) → isActive m l ≡ true → isActive m h ≡ true → f l ≡ f h
 
 -- ---- promises
 
@@ -70,20 +71,20 @@ Written =
 
 -- Each active lane's words after a taken step. (An inactive lane's are kept: Kept.)
 abbrev pub LaneWords : Type 0
-LaneWords = (k : List ℕ) (m : State) → stepOf k m .code ≡ 0 → (l : ℕ) → isActive m l ≡ true → LaneLeft m (instrAt k m) l (stepOf k m .left .vector)
+LaneWords = (k : List ℕ) (m : State) → stepOf k m .code ≡ 0 → (l : Lane) → isActive m l ≡ true → LaneLeft m (instrAt k m) l (stepOf k m .left .vector)
 
 -- Row 10: the active lanes' words f differ, or any two of them are equal; and then the value that they share is the word of each.
-pub record OneValued (m : State) (f : ℕ → ℕ) : Type 0 where
+pub record OneValued (m : State) (f : Lane → ℕ) : Type 0 where
   pub equal : Iff (mixed f m ≡ false) (AllEqual m f)
-  pub value : mixed f m ≡ false → (l : ℕ) → isActive m l ≡ true → valueOf (fixedOf m .numt) (active m) f ≡ f l
+  pub value : mixed f m ≡ false → (l : Lane) → isActive m l ≡ true → valueOf (fixedOf m .numt) (active m) f ≡ f l
 
 abbrev pub OneValue : Type 0
-OneValue = (m : State) (f : ℕ → ℕ) → OneValued m f
+OneValue = (m : State) (f : Lane → ℕ) → OneValued m f
 
 -- vmv.x.s of register b: where none of 1 to 5 holds it is taken when, and only when, any two active lanes' words are equal; and then the scalar register has each one's word.
 pub record Shares (k : List ℕ) (m : State) (r : XReg) (b : VReg) : Type 0 where
   pub taken : first (stepTests k m) ≡ 0 → Iff (stepOf k m .code ≡ 0) (AllEqual m (laneOf (m .vector) b))
-  pub value : stepOf k m .code ≡ 0 → (r .0 ≡ 0 → ⊥) → r .0 < length (m .warp .x) → (l : ℕ) → isActive m l ≡ true → readX r (stepOf k m .left .warp) ≡ laneOf (m .vector) b l
+  pub value : stepOf k m .code ≡ 0 → (r .0 ≡ 0 → ⊥) → r .0 < length (m .warp .x) → (l : Lane) → isActive m l ≡ true → readX r (stepOf k m .left .warp) ≡ laneOf (m .vector) b l
 
 abbrev pub MoveShares : Type 0
 MoveShares = (k : List ℕ) (m : State) (r : XReg) (b : VReg) → instrAt k m ≡ I.VMoveXS r b → Shares k m r b

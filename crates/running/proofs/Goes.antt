@@ -18,11 +18,12 @@ use Rattle.warp.specs.Csr.{isPrint, csrAt, csrNew, csrDone, withCsr, writesOf}
 use Rattle.warp.proofs.CsrLaws.{csr-reads, csr-writes}
 use Rattle.warp.proofs.Moves.{cut-two}
 use Rattle.word.specs.Word.{addOf, extendOf, flagOf}
-use Rattle.running.specs.Words.{movingCount, flatCount, rpcAt, printAt, endedAt, waitingAt, pcIn, maskIn, rpcIn, depthIn, endedIn, waitingIn, splitAt, warpOf, soundOf}
-use Rattle.running.specs.Goes.{goIn, nextIn, resumeIn, csrIn, putSplit, Goes}
-use Rattle.running.proofs.Lists.{seven}
-use Rattle.running.proofs.Splits.{flag-bit, flag-is, splits-get, splits-set, phases-put}
-use Rattle.running.proofs.Words.{sound-parts, sound-whole}
+use Rattle.layout.specs.Words.{movingCount, flatCount, rpcAt, printAt, endedAt, waitingAt, pcIn, maskIn, rpcIn, depthIn, endedIn, waitingIn, splitAt, warpOf, soundOf}
+use Rattle.running.specs.Goes.{goIn, nextIn, resumeIn, csrIn, Goes}
+use Rattle.layout.specs.Lent.{putSplit}
+use Rattle.layout.proofs.Lists.{seven}
+use Rattle.layout.proofs.Splits.{flag-bit, flag-is, splits-get, splits-set, phases-put}
+use Rattle.layout.proofs.Words.{sound-parts, sound-whole}
 
 -- ---- one after another
 
@@ -53,13 +54,13 @@ csr-warp n y g h x s z = go (isPrint n)
     go false = rw (seven h z)
 
 -- the other words are as they were
-abbrev Kept : List ℕ → List ℕ → Type 0
-Kept h h' = (length h' ≡ movingCount) × (depthIn h' ≡ depthIn h) × (endedIn h' ≡ endedIn h) × (waitingIn h' ≡ waitingIn h)
+abbrev Unmoved : List ℕ → List ℕ → Type 0
+Unmoved h h' = (length h' ≡ movingCount) × (depthIn h' ≡ depthIn h) × (endedIn h' ≡ endedIn h) × (waitingIn h' ≡ waitingIn h)
 
-csr-keeps : (n y : ℕ) (h : List ℕ) → length h ≡ movingCount → Kept h (csrIn n y h)
+csr-keeps : (n y : ℕ) (h : List ℕ) → length h ≡ movingCount → Unmoved h (csrIn n y h)
 csr-keeps n y h z = go (isPrint n)
   where
-    go : (b : Bool) → Kept h (cond b (set h printAt y) (set h rpcAt y))
+    go : (b : Bool) → Unmoved h (cond b (set h printAt y) (set h rpcAt y))
     go true = (simp length-set z, rw (seven h z), rw (seven h z), rw (seven h z))
     go false = (simp length-set z, rw (seven h z), rw (seven h z), rw (seven h z))
 
@@ -141,7 +142,7 @@ module _ (g h x s : List ℕ) (z : length h ≡ movingCount) (n : length s ≡ f
 
 module _ (g h x s : List ℕ) (z : length h ≡ movingCount) (n : length s ≡ flatCount) (h' : List ℕ) where
   pub open-goes : (s' : List ℕ) (e p q : ℕ) → depthIn h < splitCount → h' ≡ resumeIn (depthIn h + 1) (maskIn h - e) q h → q ≡ addOf (pcIn h) 4
-      → s' ≡ putSplit s (depthIn h) (record { rpc = rpcIn h; full = maskIn h; elsemask = e; elsepc = p; phasetwo = false })
+      → s' ≡ putSplit s (depthIn h) (record { rpc = rpcIn h; full = maskIn h; elseMask = e; elsePc = p; phaseTwo = false })
       → Goes (openOf e p) g h x s h' x s'
   unfolding warpOf openOf
   open-goes s' e p q d eh eq es =
@@ -161,19 +162,19 @@ module _ (g h x s : List ℕ) (z : length h ≡ movingCount) (n : length s ≡ f
       at-rpc : pcIn h ≡ lastSplit (warpOf g h x s) .rpc
       at-rpc = p ∙ sym (ap (λ (q : Split). q .rpc) last-is)
 
-      pub join-goes-close : q .phasetwo ≡ true → h' ≡ resumeIn (depthIn h - 1) (q .full) (pcIn h) h → s' ≡ putSplit s (depthIn h - 1) zeroSplit → Goes joinOf g h x s h' x s'
+      pub join-goes-close : q .phaseTwo ≡ true → h' ≡ resumeIn (depthIn h - 1) (q .full) (pcIn h) h → s' ≡ putSplit s (depthIn h - 1) zeroSplit → Goes joinOf g h x s h' x s'
       unfolding warpOf
       join-goes-close y eh es =
           let w : Warp = warpOf g h x s in
           put-goes g h x s z n h' s' (depthIn h - 1) (q .full) (pcIn h) eh (omega arith) (depthIn h - 1) zeroSplit es (omega arith) joinOf
-          (ap (λ (q : Split). closeOf q w) (sym last-is) ∙ join-close w o at-rpc (ap (λ (q : Split). q .phasetwo) last-is ∙ y))
+          (ap (λ (q : Split). closeOf q w) (sym last-is) ∙ join-close w o at-rpc (ap (λ (q : Split). q .phaseTwo) last-is ∙ y))
 
-      pub join-goes-turn : q .phasetwo ≡ false → h' ≡ resumeIn (depthIn h) (q .elsemask) (q .elsepc) h → s' ≡ putSplit s (depthIn h - 1) (turned q) → Goes joinOf g h x s h' x s'
+      pub join-goes-turn : q .phaseTwo ≡ false → h' ≡ resumeIn (depthIn h) (q .elseMask) (q .elsePc) h → s' ≡ putSplit s (depthIn h - 1) (turned q) → Goes joinOf g h x s h' x s'
       unfolding warpOf
       join-goes-turn y eh es =
           let w : Warp = warpOf g h x s in
-          put-goes g h x s z n h' s' (depthIn h) (q .elsemask) (q .elsepc) eh d (depthIn h - 1) (turned q) es (omega arith) joinOf
-          (ap (λ (q : Split). turnOf q w) (sym last-is) ∙ join-turn w o at-rpc (ap (λ (q : Split). q .phasetwo) last-is ∙ y))
+          put-goes g h x s z n h' s' (depthIn h) (q .elseMask) (q .elsePc) eh d (depthIn h - 1) (turned q) es (omega arith) joinOf
+          (ap (λ (q : Split). turnOf q w) (sym last-is) ∙ join-turn w o at-rpc (ap (λ (q : Split). q .phaseTwo) last-is ∙ y))
 
 pub join-goes-none : (g h x s : List ℕ) → length h ≡ movingCount → length s ≡ flatCount → (h' : List ℕ) → depthIn h ≡ 0 → h' ≡ nextIn h → Goes joinOf g h x s h' x s
 unfolding warpOf

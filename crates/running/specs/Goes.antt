@@ -1,16 +1,13 @@
--- What the functions on a warp's words do.
-use Prim.Native.Nat.{ℕ, _*_}
+-- What the functions that move a warp's words do.
+use Prim.Native.Nat.{ℕ}
 use mathlib.Core.Path.{_≡_}
 use mathlib.Core.Bool.{true, cond}
 use mathlib.Core.List.{List}
 use lib.ListN.{set, length}
-use lib.Seq.{sets}
-use Rattle.warp.specs.declared.Split.{Split}
 use Rattle.warp.specs.declared.Warp.{Warp}
 use Rattle.warp.specs.Csr.{isPrint}
-use Rattle.warp.specs.Facts.{Formed}
 use Rattle.word.specs.Word.{addOf}
-use Rattle.running.specs.Words.{splitSize, flatCount, movingCount, depthAt, pcAt, maskAt, rpcAt, printAt, pcIn, splitWords, warpOf, soundOf}
+use Rattle.layout.specs.Words.{flatCount, movingCount, depthAt, pcAt, maskAt, rpcAt, printAt, pcIn, warpOf, soundOf}
 
 abbrev pub goIn : ℕ → List ℕ → List ℕ
 goIn p h = set h pcAt p
@@ -26,20 +23,9 @@ resumeIn d m p h = goIn p (set (set h depthAt d) maskAt m)
 abbrev pub csrIn : ℕ → ℕ → List ℕ → List ℕ
 csrIn n y h = cond (isPrint n) (set h printAt y) (set h rpcAt y)
 
--- the split records with q at k
-abbrev pub putSplit : List ℕ → ℕ → Split → List ℕ
-putSplit s k q = sets s (k * splitSize) (splitWords q)
-
 -- The warp that the words stand for goes as f says: h, x and s are h', x' and s' then, a warp's words again if they were.
 pub record Goes (f : Warp → Warp) (g h x s h' x' s' : List ℕ) : Type 0 where
   pub long : length h' ≡ movingCount
   pub room : length s' ≡ flatCount
   pub goes : warpOf g h' x' s' ≡ f (warpOf g h x s)
   pub sound : soundOf h s ≡ true → soundOf h' s' ≡ true
-
--- the words of a well-formed warp
-pub record Lent (g h x s : List ℕ) : Type 0 where
-  pub long : length h ≡ movingCount
-  pub room : length s ≡ flatCount
-  pub formed : Formed (warpOf g h x s)
-  pub sound : soundOf h s ≡ true

@@ -1,108 +1,41 @@
-// A running warp as lent words: what moves it, what tests it, and the ways to and from a Warp.
+// What moves a running warp, on its lent words: registers, PC, splits and CSRs.
+use isa::CsrOp;
+use isa::XReg;
+use layout::DEPTH;
+use layout::FIXED;
+use layout::FLAT;
+use layout::GIDX;
+use layout::GIDY;
+use layout::GIDZ;
+use layout::KNL;
+use layout::LDS;
+use layout::MASK;
+use layout::MOVING;
+use layout::NUMT;
+use layout::NUMW;
+use layout::PC;
+use layout::PDS;
+use layout::PRINT;
+use layout::RPC;
+use layout::SCALARS;
+use layout::WGID;
+use layout::WID;
+use layout::put_split;
+use layout::split_at;
+use warp::Split;
+use warp::zero_split;
 ghost use mathlib.Core.Path.{_≡_};
-ghost use mathlib.Core.Bool.{_&&_, cond};
 ghost use mathlib.Core.List.{List};
-ghost use Prim.Native.Nat.{ℕ, _+_, _-_, _^_, _≤_, _<_};
-ghost use lib.ListN.{length, getD, drop};
+ghost use Prim.Native.Nat.{ℕ, _+_, _-_, _*_, _^_, _≤_, _<_};
+ghost use lib.ListN.{length, getD};
 ghost use lib.Bits.{bitAnd};
 ghost use lib.Count.{ones};
 ghost use Rattle.warp.specs.Warp.{scalarCount, splitCount, maxThreads, setX, linked};
 ghost use Rattle.warp.specs.Facts.{FixedOk};
-ghost use Rattle.warp.specs.WellFormed.{splitOkOf, chainOf, allZero, wellFormedOf};
 ghost use Rattle.warp.specs.Splits.{openOf, parted, joinOf, setRpcOf};
 ghost use Rattle.warp.specs.Csr.{csrAt, csrNew, csrDone, writesOf};
-ghost use Rattle.word.specs.Word.{flagOf};
-ghost use Rattle.running.specs.Words.{movingCount, flatCount, maskIn, depthIn, fixedIn, isSet, isFlag, phaseAt, splitAt, splitsIn, warpOf, phasesOkOf, soundOf, splitsWords, movingWords, fixedWords};
-ghost use Rattle.running.specs.Goes.{goIn, nextIn, resumeIn, csrIn, putSplit, Goes};
-use isa::CsrOp;
-use isa::XReg;
-use warp::Fixed;
-use warp::SPLITS;
-use warp::Split;
-use warp::Warp;
-use warp::zero_split;
-
-// How many words: the scalar registers, the split records, what moves, what a launch fixed.
-pub const SCALARS: usize = 32;
-
-pub const FLAT: usize = 155;
-
-pub const MOVING: usize = 7;
-
-pub const FIXED: usize = 13;
-
-// Where the last two of these begin in a saved state, after the others, and how many words it has.
-pub const MOVING_START: usize = 187;
-
-pub const FIXED_START: usize = 194;
-
-pub const STATE_WORDS: usize = 207;
-
-// The places of the moving words.
-pub const DEPTH: usize = 0;
-
-pub const PC: usize = 1;
-
-pub const MASK: usize = 2;
-
-pub const RPC: usize = 3;
-
-pub const PRINT: usize = 4;
-
-pub const ENDED: usize = 5;
-
-pub const WAITING: usize = 6;
-
-// The places of the fixed values.
-pub const NUMT: usize = 0;
-
-pub const NUMW: usize = 1;
-
-pub const WID: usize = 2;
-
-pub const LAUNCHMASK: usize = 3;
-
-pub const CODEBASE: usize = 4;
-
-pub const DATABASE: usize = 5;
-
-pub const KNL: usize = 6;
-
-pub const WGID: usize = 7;
-
-pub const LDS: usize = 8;
-
-pub const PDS: usize = 9;
-
-pub const GIDX: usize = 10;
-
-pub const GIDY: usize = 11;
-
-pub const GIDZ: usize = 12;
-
-// A split record's words, and the places of those after its rpc.
-pub const SPLIT: usize = 5;
-
-const FULL: usize = 1;
-
-const ELSEMASK: usize = 2;
-
-const ELSEPC: usize = 3;
-
-pub const PHASE: usize = 4;
-
-// A word as an index.
-pub fn wide(x: u32) -> usize
-    ensures { λ r. ⌜ r ≡ x ⌝ }
-{
-    x as usize
-}
-
-fn flag_word(b: bool) -> u32
-    ensures { λ r. ⌜ r ≡ flagOf b ⌝ }
-{
-    if b { 1 } else { 0 }
-}
+ghost use Rattle.layout.specs.Words.{movingCount, flatCount, maskIn, depthIn, fixedIn, warpOf};
+ghost use Rattle.running.specs.Goes.{goIn, nextIn, resumeIn, csrIn, Goes};
 
 // ---- scalar registers and the PC
 
@@ -147,32 +80,6 @@ pub fn link(h: &mut [u32; MOVING], x: &mut [u32; SCALARS], rd: XReg, p: u32)
 
 // ---- splits
 
-fn split_at(s: &[u32; FLAT], k: usize) -> Split
-    requires { ⌜ k < splitCount ⌝ }
-    ensures { λ r. ⌜ r ≡ splitAt (now (s .entry)) k ⌝ }
-{
-    let i = k * SPLIT;
-    Split {
-        rpc: s[i],
-        full: s[i + FULL],
-        elsemask: s[i + ELSEMASK],
-        elsepc: s[i + ELSEPC],
-        phasetwo: s[i + PHASE] != 0,
-    }
-}
-
-fn put_split(s: &mut [u32; FLAT], k: usize, q: Split)
-    requires { ⌜ k < splitCount ⌝ }
-    ensures { λ _. ⌜ now (s .exit) ≡ putSplit (now (s .entry)) k q ⌝ }
-{
-    let i = k * SPLIT;
-    s[i] = q.rpc;
-    s[i + FULL] = q.full;
-    s[i + ELSEMASK] = q.elsemask;
-    s[i + ELSEPC] = q.elsepc;
-    s[i + PHASE] = flag_word(q.phasetwo);
-}
-
 // The warp goes on with other splits, mask and PC.
 fn resume(h: &mut [u32; MOVING], depth: u32, mask: u32, pc: u32)
     ensures { λ _. ⌜ now (h .exit) ≡ resumeIn depth mask pc (now (h .entry)) ⌝ }
@@ -197,9 +104,9 @@ fn open(h: &mut [u32; MOVING], s: &mut [u32; FLAT], e: u32, p: u32)
         Split {
             rpc: h[RPC],
             full: m,
-            elsemask: e,
-            elsepc: p,
-            phasetwo: false,
+            elseMask: e,
+            elsePc: p,
+            phaseTwo: false,
         },
     );
     resume(h, n + 1, rest, after);
@@ -238,15 +145,15 @@ pub fn join(h: &mut [u32; MOVING], s: &mut [u32; FLAT])
         h[PC] = after;
         return;
     }
-    if q.phasetwo {
+    if q.phaseTwo {
         put_split(s, k, zero_split());
         resume(h, k as u32, q.full, pc);
         return;
     }
     let mut t = q;
-    t.phasetwo = true;
+    t.phaseTwo = true;
     put_split(s, k, t);
-    resume(h, n as u32, q.elsemask, q.elsepc);
+    resume(h, n as u32, q.elseMask, q.elsePc);
 }
 
 // ---- CSRs and SETRPC
@@ -337,203 +244,4 @@ pub fn csr(
         let new = csr_new(op, old, y);
         csr_put(h, n, new);
     }
-}
-
-// ---- the warp taken apart, and put together
-
-pub fn moving_of(w: Warp) -> [u32; MOVING]
-    requires { ⌜ w .depth ≤ splitCount ⌝ }
-    ensures { λ r. ⌜ r ≡ movingWords w ⌝ }
-{
-    [
-        w.depth as u32,
-        w.pc,
-        w.mask,
-        w.rpc,
-        w.print,
-        flag_word(w.ended),
-        flag_word(w.waiting),
-    ]
-}
-
-pub fn fixed_of(f: Fixed) -> [u32; FIXED]
-    ensures { λ r. ⌜ r ≡ fixedWords f ⌝ }
-{
-    [
-        f.numt,
-        f.numw,
-        f.wid,
-        f.launchmask,
-        f.codebase,
-        f.database,
-        f.knl,
-        f.wgid,
-        f.lds,
-        f.pds,
-        f.gidx,
-        f.gidy,
-        f.gidz,
-    ]
-}
-
-pub fn fixed_in(g: &[u32; FIXED]) -> Fixed
-    ensures { λ f. ⌜ f ≡ fixedIn (now (g .entry)) ⌝ }
-{
-    Fixed {
-        numt: g[NUMT],
-        numw: g[NUMW],
-        wid: g[WID],
-        launchmask: g[LAUNCHMASK],
-        codebase: g[CODEBASE],
-        database: g[DATABASE],
-        knl: g[KNL],
-        wgid: g[WGID],
-        lds: g[LDS],
-        pds: g[PDS],
-        gidx: g[GIDX],
-        gidy: g[GIDY],
-        gidz: g[GIDZ],
-    }
-}
-
-pub fn flat(q: [Split; SPLITS]) -> [u32; FLAT]
-    ensures { λ r. ⌜ r ≡ splitsWords q ⌝ }
-{
-    let mut s = [0u32; FLAT];
-    let mut k: usize = 0;
-    while k < SPLITS {
-        let a = q[k];
-        put_split(&mut s, k, a);
-        k = k + 1;
-    }
-    s
-}
-
-fn unflat(s: &[u32; FLAT]) -> [Split; SPLITS]
-    ensures { λ r. ⌜ r ≡ splitsIn (now (s .entry)) ⌝ }
-{
-    let none = zero_split();
-    let mut q = [none; SPLITS];
-    let mut k: usize = 0;
-    while k < SPLITS {
-        let a = split_at(s, k);
-        q[k] = a;
-        k = k + 1;
-    }
-    q
-}
-
-pub fn together(h: &[u32; MOVING], g: &[u32; FIXED], x: [u32; SCALARS], s: &[u32; FLAT]) -> Warp
-    ensures { λ r. ⌜ r ≡ warpOf (now (g .entry)) (now (h .entry)) x (now (s .entry)) ⌝ }
-{
-    let q = unflat(s);
-    let f = fixed_in(g);
-    Warp {
-        x: x,
-        splits: q,
-        depth: wide(h[DEPTH]),
-        pc: h[PC],
-        mask: h[MASK],
-        rpc: h[RPC],
-        print: h[PRINT],
-        ended: h[ENDED] != 0,
-        waiting: h[WAITING] != 0,
-        fixed: f,
-    }
-}
-
-// ---- the test of well-formedness
-
-// The lanes of an open split that run: its full lanes less the else lanes e (0 where those are more), in phase two e.
-fn running(full: u32, e: u32, phase: u32) -> u32
-    ensures { λ r. ⌜ r ≡ cond (isSet phase) e (full - e) ⌝ }
-{
-    if phase != 0 {
-        return e;
-    }
-    if e <= full { full - e } else { 0 }
-}
-
-// Open split k, whose running part is to be m.
-fn open_ok(s: &[u32; FLAT], k: usize, m: u32) -> bool
-    requires { ⌜ k < splitCount ⌝ }
-    ensures { λ r. ⌜ r ≡ (isFlag (phaseAt (now (s .entry)) k) && splitOkOf (splitAt (now (s .entry)) k) m) ⌝ }
-{
-    let i = k * SPLIT;
-    let f = s[i + FULL];
-    let e = s[i + ELSEMASK];
-    let phase = s[i + PHASE];
-    let r = running(f, e, phase);
-    (phase <= 1)
-        & ((e != 0) & (((e & f) == e) & ((e != f) & ((s[i + ELSEPC] % 4 == 0) & (r == m)))))
-}
-
-// The open splits, from the last one back to the launch.
-fn chain_ok(s: &[u32; FLAT], depth: usize, mask: u32, launchmask: u32) -> bool
-    requires { ⌜ depth ≤ splitCount ⌝ }
-    ensures { λ r. ⌜ r ≡ (phasesOkOf depth (now (s .entry)) && chainOf launchmask (splitsIn (now (s .entry))) depth mask) ⌝ }
-{
-    let mut m = mask;
-    let mut k = depth;
-    while 0 < k {
-        k = k - 1;
-        if !open_ok(s, k, m) {
-            return false;
-        }
-        m = s[k * SPLIT + FULL];
-    }
-    m == launchmask
-}
-
-// The unused records are all zeros: found without a branch.
-fn unused_ok(s: &[u32; FLAT], depth: usize) -> bool
-    requires { ⌜ depth ≤ splitCount ⌝ }
-    ensures { λ r. ⌜ r ≡ allZero (drop depth (splitsIn (now (s .entry)))) ⌝ }
-{
-    let mut any: u32 = 0;
-    let mut i = depth * SPLIT;
-    while i < FLAT {
-        any = any | s[i];
-        i = i + 1;
-    }
-    any == 0
-}
-
-// A well-formed warp's words.
-pub fn words_ok(h: &[u32; MOVING], g: &[u32; FIXED], x: &[u32; SCALARS], s: &[u32; FLAT]) -> bool
-    ensures { λ r. ⌜ r ≡ (soundOf (now (h .entry)) (now (s .entry)) && wellFormedOf (warpOf (now (g .entry)) (now (h .entry)) (now (x .entry)) (now (s .entry)))) ⌝ }
-{
-    let depth = wide(h[DEPTH]);
-    if SPLITS < depth {
-        return false;
-    }
-    let ended = h[ENDED];
-    let waiting = h[WAITING];
-    let fixed = warp::fixed_ok(fixed_in(g));
-    let unused = unused_ok(s, depth);
-    let chain = chain_ok(s, depth, h[MASK], g[LAUNCHMASK]);
-    let stopped = (ended != 0) | (waiting != 0);
-    (ended <= 1)
-        & ((waiting <= 1)
-            & (fixed
-                & ((h[PC] % 4 == 0)
-                    & ((x[0] == 0)
-                        & (unused
-                            & (!((ended != 0) & (waiting != 0))
-                                & (chain & !(stopped & (0 < depth)))))))))
-}
-
-pub fn well_formed(w: Warp) -> bool
-    ensures { λ r. ⌜ r ≡ wellFormedOf w ⌝ }
-{
-    if SPLITS < w.depth {
-        return false;
-    }
-    let x = w.x;
-    let q = w.splits;
-    let f = w.fixed;
-    let h = moving_of(w);
-    let g = fixed_of(f);
-    let s = flat(q);
-    words_ok(&h, &g, &x, &s)
 }

@@ -1,52 +1,16 @@
--- What the loops do to the words.
-use Prim.Native.Nat.{ℕ, zero, suc, _+_, _-_, _<_, _≤_}
-use mathlib.Core.Path.{_≡_, refl, sym, _∙_, ap}
+-- What the tests and the copies do with a state's words.
+use Prim.Native.Nat.{ℕ, zero, suc, _-_, _<_, _≤_}
+use mathlib.Core.Path.{_≡_, refl, _∙_}
 use mathlib.Core.Bool.{true, false}
-use mathlib.Core.List.{List, [], _++_, append-nil}
-use native.Mathlib.Numerals.{add-one}
+use mathlib.Core.List.{List}
 use native.Mathlib.Omega.{arith}
-use lib.ListN.{length, getD, take, drop, set, replicate, length-drop, length-replicate, drop-of-length-le}
-use lib.Seq.{paste, paste-suc, length-paste, getD-drop, take-all, take-paste}
 use borrow.Author.Tests.{le-leb, lt-leb}
-use Rattle.warp.specs.Warp.{scalarCount}
-use Rattle.running.specs.Words.{flatCount, movingCount, fixedCount, movingStart, fixedStart, stateWords, phaseAt, phasesOkOf, warpOf, scalarPart, splitPart, movingPart, fixedPart, warpIn}
-use Rattle.running.proofs.Splits.{phases-step}
-
--- ---- words copied
-
-pub copy-turn : (d s to : List ℕ) (a b i : ℕ) → to ≡ paste d b (drop a s) i → a + i < length s → b + i < length d
-    → set to (b + i) (getD s (a + i) 0) ≡ paste d b (drop a s) (i + 1)
-copy-turn d s to a b i e hs hd = rw (e, ← getD-drop a s i 0, add-one) (paste-suc d b (drop a s) i 0 hd (simp length-drop (omega arith)))
-
--- words copied into an array of zeros
-pub copied : (s : List ℕ) (n : ℕ) → paste (replicate n 0) 0 s n ≡ take n s
-copied s n =
-    let z : List ℕ = replicate n 0 in
-    let l : length z ≡ n = length-replicate n 0 in
-    let o : length z ≤ 0 + n = omega arith in
-    rw (drop-of-length-le z o) (append-nil (take n s))
+use Rattle.layout.specs.Words.{phaseAt, phasesOkOf, warpOf, scalarPart, splitPart, movingPart, fixedPart, warpIn}
+use Rattle.layout.proofs.Splits.{phases-step}
 
 -- the parts of a state copied
 pub parts-warp : (t g h x s : List ℕ) → g ≡ fixedPart t → h ≡ movingPart t → x ≡ scalarPart t → s ≡ splitPart t → warpOf g h x s ≡ warpIn t
 parts-warp t g h x s eg eh ex es = rw (eg, eh, ex, es)
-
--- the next part put after the first k words, which are p
-pub part-put : (t p a : List ℕ) (k n : ℕ) → take k t ≡ p → length a ≡ n → k ≤ length t → take (k + n) (paste t k a n) ≡ p ++ a
-part-put t p a k n e l h = take-paste t k a n h (omega arith) ∙ rw (e, take-all n a (omega arith))
-
--- four parts put one after another
-pub four-put : (x s h g : List ℕ) → length x ≡ scalarCount → length s ≡ flatCount → length h ≡ movingCount → length g ≡ fixedCount
-    → (t t₁ t₂ t₃ t₄ : List ℕ) → length t ≡ stateWords → t₁ ≡ paste t 0 x scalarCount → t₂ ≡ paste t₁ scalarCount s flatCount → t₃ ≡ paste t₂ movingStart h movingCount → t₄ ≡ paste t₃ fixedStart g fixedCount
-    → t₄ ≡ x ++ s ++ h ++ g
-four-put x s h g lx ls lh lg t t₁ t₂ t₃ t₄ l e₁ e₂ e₃ e₄ =
-    let l₁ : length t₁ ≡ stateWords = ap length e₁ ∙ length-paste t 0 x scalarCount (omega arith) (omega arith) ∙ l in
-    let l₂ : length t₂ ≡ stateWords = ap length e₂ ∙ length-paste t₁ scalarCount s flatCount (omega arith) (omega arith) ∙ l₁ in
-    let l₃ : length t₃ ≡ stateWords = ap length e₃ ∙ length-paste t₂ movingStart h movingCount (omega arith) (omega arith) ∙ l₂ in
-    let l₄ : length t₄ ≡ stateWords = ap length e₄ ∙ length-paste t₃ fixedStart g fixedCount (omega arith) (omega arith) ∙ l₃ in
-    let p₁ : take scalarCount t₁ ≡ x = ap (take scalarCount) e₁ ∙ part-put t [] x 0 scalarCount refl lx (omega arith) in
-    let p₂ : take movingStart t₂ ≡ x ++ s = ap (take movingStart) e₂ ∙ part-put t₁ x s scalarCount flatCount p₁ ls (omega arith) in
-    let p₃ : take fixedStart t₃ ≡ x ++ s ++ h = ap (take fixedStart) e₃ ∙ part-put t₂ (x ++ s) h movingStart movingCount p₂ lh (omega arith) in
-    sym (take-all stateWords t₄ (omega arith)) ∙ ap (take stateWords) e₄ ∙ part-put t₃ (x ++ s ++ h) g fixedStart fixedCount p₃ lg (omega arith)
 
 -- ---- phases
 

@@ -6,8 +6,8 @@ use mathlib.Core.List.{List}
 use lib.ListN.{length}
 use Rattle.warp.specs.declared.Warp.{Warp}
 use Rattle.warp.specs.Warp.{scalarCount, splitCount, Answered, answered}
-use Rattle.running.specs.Words.{stateWords, wordsOf, warpIn, soundIn}
-use Rattle.running.proofs.Words.{warp-words, words-warp, words-sound, words-long}
+use Rattle.layout.specs.Words.{stateWords, wordsOf, warpIn, soundIn}
+use Rattle.layout.proofs.Words.{warp-words, words-warp, words-sound, words-long}
 use Rattle.saved.specs.Saved.{Saving, saving, saveOf, restoreOf}
 use Rattle.saved.proofs.SaveLaws.{save-done, restore-done, warp-deep}
 

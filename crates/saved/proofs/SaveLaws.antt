@@ -10,9 +10,9 @@ use Rattle.answer.specs.Answer.{numberOf}
 use Rattle.answer.proofs.Numbers.{number-one}
 use Rattle.warp.specs.declared.Warp.{Warp}
 use Rattle.warp.specs.Warp.{splitCount, zeroWarp, Answered, answered}
-use Rattle.running.specs.Words.{stateWords, splitPart, movingPart, warpOf, splitsWords, wordsOf, warpIn, soundIn}
-use Rattle.running.proofs.Words.{sound-parts}
-use Rattle.saved.specs.declared.Restored.{Restored}
+use Rattle.layout.specs.Words.{stateWords, splitPart, movingPart, warpOf, splitsWords, wordsOf, warpIn, soundIn}
+use Rattle.layout.proofs.Words.{sound-parts}
+use Rattle.saved.specs.declared.ReadState.{ReadState}
 use Rattle.saved.specs.Saved.{Saving, saving, saveOf, restoreOf}
 
 -- ---- by cases
@@ -63,7 +63,7 @@ save-determined w t a b u v p q =
     let e : saving (numberOf a) u ≡ saving (numberOf b) v = p ∙ sym q in
     (number-one a b (ap (λ (x : Saving). x .number) e), ap (λ (x : Saving). x .state) e)
 
-pub restore-determined : (t : List ℕ) (r s : Restored) → answered (numberOf (r .answer)) (r .warp) ≡ restoreOf t → answered (numberOf (s .answer)) (s .warp) ≡ restoreOf t → r ≡ s
+pub restore-determined : (t : List ℕ) (r s : ReadState) → answered (numberOf (r .answer)) (r .warp) ≡ restoreOf t → answered (numberOf (s .answer)) (s .warp) ≡ restoreOf t → r ≡ s
 restore-determined t r s p q =
     let e : answered (numberOf (r .answer)) (r .warp) ≡ answered (numberOf (s .answer)) (s .warp) = p ∙ sym q in
     ap₂ (λ (a : Answer) (w : Warp). record { answer = a; warp = w }) (number-one (r .answer) (s .answer) (ap (λ (x : Answered). x .code) e)) (ap (λ (x : Answered). x .warp) e)

@@ -3,11 +3,10 @@ use Prim.Native.Nat.{ℕ}
 use mathlib.Core.Bool.{Bool, not, cond}
 use mathlib.Core.List.{List, [], _∷_}
 use lib.Dec.{eqb, leb}
-use lib.ListN.{length}
 use Rattle.answer.specs.Rows.{Row, _⇒_, first}
 use Rattle.warp.specs.declared.Warp.{Warp}
 use Rattle.warp.specs.Warp.{splitCount, zeroWarp, Answered, answered}
-use Rattle.running.specs.Words.{stateWords, wordsOf, warpIn, soundIn}
+use Rattle.layout.specs.Words.{isState, wordsOf, warpIn, soundIn}
 
 -- what a saving leaves: its number, and the run that was lent
 pub record Saving : Type 0 where
@@ -18,7 +17,7 @@ abbrev pub saving : ℕ → List ℕ → Saving
 saving n t = record { number = n; state = t }
 
 abbrev pub saveTests : Warp → List ℕ → List (Row Bool)
-saveTests w t = 1 ⇒ not (eqb (length t) stateWords) ∷ 2 ⇒ not (leb (w .depth) splitCount) ∷ []
+saveTests w t = 1 ⇒ not (isState t) ∷ 2 ⇒ not (leb (w .depth) splitCount) ∷ []
 
 -- a refused saving writes nothing
 unfoldable pub saveOf : Warp → List ℕ → Saving
@@ -27,7 +26,7 @@ saveOf w t =
     cond (eqb c 0) (saving 0 (wordsOf w)) (saving c t)
 
 abbrev pub restoreTests : List ℕ → List (Row Bool)
-restoreTests t = 1 ⇒ not (eqb (length t) stateWords) ∷ 2 ⇒ not (soundIn t) ∷ []
+restoreTests t = 1 ⇒ not (isState t) ∷ 2 ⇒ not (soundIn t) ∷ []
 
 -- a refused restoring gives the zero warp
 unfoldable pub restoreOf : List ℕ → Answered

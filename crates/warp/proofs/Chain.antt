@@ -14,6 +14,7 @@ use lib.Count.{ones}
 use borrow.Author.Tests.{eq-eqb, ne-eqb, eqb-true, eqb-false, not-true}
 use Rattle.warp.specs.declared.Split.{Split}
 use Rattle.answer.proofs.Rows.{both, every-at}
+use Rattle.lanes.specs.declared.Lane.{Lane}
 use Rattle.lanes.specs.Mask.{bitAt, inside}
 use Rattle.lanes.proofs.MaskLaws.{cut-bit, cut-ones, ones-pos}
 use Rattle.warp.specs.Warp.{zeroSplit, aligned}
@@ -49,16 +50,16 @@ zero-end ss i h = rw (drop-of-length-le ss h)
 
 -- an open split, of which m runs
 pub record Good (s : Split) (m : ℕ) : Type 0 where
-  pub some : s .elsemask ≡ 0 → ⊥
-  pub within : bitAnd (s .elsemask) (s .full) ≡ s .elsemask
-  pub strict : s .elsemask ≡ s .full → ⊥
-  pub aligned : s .elsepc % 4 ≡ 0
+  pub some : s .elseMask ≡ 0 → ⊥
+  pub within : bitAnd (s .elseMask) (s .full) ≡ s .elseMask
+  pub strict : s .elseMask ≡ s .full → ⊥
+  pub aligned : s .elsePc % 4 ≡ 0
   pub runs : runningOf s ≡ m
 
 pub good : (s : Split) (m : ℕ) → splitOkOf s m ≡ true → Good s m
 unfolding splitOkOf
 good s m e =
-    let p = every-at (not (eqb (s .elsemask) 0) ∷ inside (s .elsemask) (s .full) ∷ not (eqb (s .elsemask) (s .full)) ∷ aligned (s .elsepc) ∷ eqb (runningOf s) m ∷ []) e in
+    let p = every-at (not (eqb (s .elseMask) 0) ∷ inside (s .elseMask) (s .full) ∷ not (eqb (s .elseMask) (s .full)) ∷ aligned (s .elsePc) ∷ eqb (runningOf s) m ∷ []) e in
     record {
       some = eqb-false _ _ (not-true _ (p 0));
       within = eqb-true _ _ (p 1);
@@ -83,27 +84,27 @@ share-ones true e f h z n = omega (arith, cut-ones f e h, ones-pos (f - e) (omeg
 share-ones false e f h z n = omega (arith, cut-ones f e h, ones-pos e (omega arith), and-le-r e f)
 
 -- each launched lane is active or parked in just one of the d splits, and no other lane is either
-pub covered : (l a : ℕ) (ss : List Split) (d m : ℕ) → chainOf a ss d m ≡ true → bitAt l m + parkedIn l ss d ≡ bitAt l a
+pub chain-covered : (l : Lane) (a : ℕ) (ss : List Split) (d m : ℕ) → chainOf a ss d m ≡ true → bitAt (l .0) m + parkedIn l ss d ≡ bitAt (l .0) a
 unfolding chainOf parkedIn
-covered l a ss zero m e = let q : bitAt l m ≡ bitAt l a = ap (bitAt l) (eqb-true m a e) in omega arith
-covered l a ss (suc d) m e =
+chain-covered l a ss zero m e = let q : bitAt (l .0) m ≡ bitAt (l .0) a = ap (bitAt (l .0)) (eqb-true m a e) in omega arith
+chain-covered l a ss (suc d) m e =
     let s : Split = getD ss d zeroSplit in
     let p = both (splitOkOf s m) (chainOf a ss d (s .full)) e in
     let g : Good s m = good s m (p .0) in
-    let r : bitAt l (runningOf s) ≡ bitAt l m = ap (bitAt l) (g .runs) in
-    omega (arith, covered l a ss d (s .full) (p .1), share l (s .phasetwo) (s .elsemask) (s .full) (g .within))
+    let r : bitAt (l .0) (runningOf s) ≡ bitAt (l .0) m = ap (bitAt (l .0)) (g .runs) in
+    omega (arith, chain-covered l a ss d (s .full) (p .1), share (l .0) (s .phaseTwo) (s .elseMask) (s .full) (g .within))
 
 -- each split parks a lane, and the active mask isn't empty
-pub fewer : (a : ℕ) (ss : List Split) (d m : ℕ) → 0 < a → chainOf a ss d m ≡ true → (d + ones m ≤ ones a) × (0 < m)
+pub chain-fewer : (a : ℕ) (ss : List Split) (d m : ℕ) → 0 < a → chainOf a ss d m ≡ true → (d + ones m ≤ ones a) × (0 < m)
 unfolding chainOf
-fewer a ss zero m h e = let q : m ≡ a = eqb-true m a e in let o : ones m ≡ ones a = ap ones q in omega arith
-fewer a ss (suc d) m h e =
+chain-fewer a ss zero m h e = let q : m ≡ a = eqb-true m a e in let o : ones m ≡ ones a = ap ones q in omega arith
+chain-fewer a ss (suc d) m h e =
     let s : Split = getD ss d zeroSplit in
     let p = both (splitOkOf s m) (chainOf a ss d (s .full)) e in
     let g : Good s m = good s m (p .0) in
     let r : ones (runningOf s) ≡ ones m = ap ones (g .runs) in
     let q : runningOf s ≡ m = g .runs in
-    omega (arith, fewer a ss d (s .full) h (p .1), share-ones (s .phasetwo) (s .elsemask) (s .full) (g .within) (g .some) (g .strict))
+    omega (arith, chain-fewer a ss d (s .full) h (p .1), share-ones (s .phaseTwo) (s .elseMask) (s .full) (g .within) (g .some) (g .strict))
 
 running-le : (b : Bool) (e f : ℕ) → bitAnd e f ≡ e → cond b e (f - e) ≤ f
 running-le true e f h = omega (arith, and-le-r e f)
@@ -118,7 +119,7 @@ chain-le a ss (suc d) m e =
     let p = both (splitOkOf s m) (chainOf a ss d (s .full)) e in
     let g : Good s m = good s m (p .0) in
     let q : runningOf s ≡ m = g .runs in
-    omega (arith, chain-le a ss d (s .full) (p .1), running-le (s .phasetwo) (s .elsemask) (s .full) (g .within))
+    omega (arith, chain-le a ss d (s .full) (p .1), running-le (s .phaseTwo) (s .elseMask) (s .full) (g .within))
 
 -- the splits below place d don't see what is put at i, above them
 pub chain-set : (a : ℕ) (ss : List Split) (i : ℕ) (s : Split) (d m : ℕ) → d ≤ i → chainOf a (set ss i s) d m ≡ chainOf a ss d m

@@ -35,9 +35,9 @@ unfolding fixedOkOf
 fixed-ok f e =
     let p =
     every-at
-    (between 1 (f .numt) maxThreads ∷ between 1 (f .numw) maxWarps ∷ ltb (f .wid) (f .numw) ∷ not (eqb (f .launchmask) 0) ∷ ltb (f .launchmask) (2 ^ f .numt) ∷ aligned (f .codebase) ∷ [])
+    (between 1 (f .numt) maxThreads ∷ between 1 (f .numw) maxWarps ∷ ltb (f .wid) (f .numw) ∷ not (eqb (f .launchMask) 0) ∷ ltb (f .launchMask) (2 ^ f .numt) ∷ aligned (f .codeBase) ∷ [])
     e in
-    let z : f .launchmask ≡ 0 → ⊥ = eqb-false _ _ (not-true _ (p 3)) in
+    let z : f .launchMask ≡ 0 → ⊥ = eqb-false _ _ (not-true _ (p 3)) in
     record {
       lanes = ends 1 (f .numt) maxThreads (p 0);
       warps = ends 1 (f .numw) maxWarps (p 1);
@@ -56,7 +56,7 @@ tid-small f k = mul-le-mul (le-of-lt (lt-of-lt-of-le (k .wid) (k .warps .1))) (k
 abbrev tests : Warp → List Bool
 tests w =
     fixedOkOf (w .fixed) ∷ aligned (w .pc) ∷ eqb (getD (w .x) 0 0) 0 ∷ leb (w .depth) splitCount ∷ allZero (drop (w .depth) (w .splits)) ∷ not (w .ended && w .waiting)
-    ∷ chainOf (w .fixed .launchmask) (w .splits) (w .depth) (w .mask) ∷ not ((w .ended || w .waiting) && ltb 0 (w .depth)) ∷ []
+    ∷ chainOf (w .fixed .launchMask) (w .splits) (w .depth) (w .mask) ∷ not ((w .ended || w .waiting) && ltb 0 (w .depth)) ∷ []
 
 -- no more splits are open than there is room for, whatever the length of the list
 pub depth-le : (w : Warp) → wellFormedOf w ≡ true → w .depth ≤ splitCount
@@ -81,7 +81,7 @@ held-of w f =
 -- the active mask has no lane at or above NUMT
 pub mask-small : (w : Warp) → Formed w → w .mask < 2 ^ w .fixed .numt
 mask-small w f =
-    lt-of-le-of-lt (chain-le (w .fixed .launchmask) (w .splits) (w .depth) (w .mask) (f .chain)) (fixed-ok (w .fixed) (f .fixed) .mask)
+    lt-of-le-of-lt (chain-le (w .fixed .launchMask) (w .splits) (w .depth) (w .mask) (f .chain)) (fixed-ok (w .fixed) (f .fixed) .mask)
 
 -- ---- what leaves the splits alone
 
@@ -192,6 +192,6 @@ module _ (w : Warp) (f : Formed w) (en : w .ended ≡ false) (wa : w .waiting �
   formed-join =
       by-cond (λ (v : Warp). Held v → Formed v) (eqb (w .depth) 0) _ _ (λ z k. formed-next w f)
       (λ z. by-cond (λ (v : Warp). Held v → Formed v) (eqb (w .pc) (lastSplit w .rpc)) _ _
-      (λ q. by-cond (λ (v : Warp). Held v → Formed v) (lastSplit w .phasetwo) _ _ (λ s k. formed-close (eqb-false _ _ z) k) (λ s k. formed-turn (eqb-false _ _ z) k))
+      (λ q. by-cond (λ (v : Warp). Held v → Formed v) (lastSplit w .phaseTwo) _ _ (λ s k. formed-close (eqb-false _ _ z) k) (λ s k. formed-turn (eqb-false _ _ z) k))
       (λ q k. formed-next w f))
       (held w (joinOf w) (held-of w f) (joins refl))

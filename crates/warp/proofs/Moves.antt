@@ -16,6 +16,7 @@ use borrow.Author.Tests.{eqb-false}
 use Rattle.warp.specs.declared.Split.{Split}
 use Rattle.warp.specs.declared.Warp.{Warp}
 use Rattle.answer.proofs.Rows.{both}
+use Rattle.lanes.specs.declared.Lane.{Lane}
 use Rattle.lanes.specs.Mask.{bitAt}
 use Rattle.lanes.proofs.MaskLaws.{cut-bit, cut-ones, ones-pos}
 use Rattle.warp.specs.Warp.{splitCount, maxThreads, zeroSplit}
@@ -23,7 +24,7 @@ use Rattle.warp.specs.WellFormed.{splitOkOf, chainOf}
 use Rattle.warp.specs.Splits.{opened, openOf, lastSplit, turned, turnOf, closeOf, joinOf}
 use Rattle.warp.proofs.SplitLaws.{by-cond}
 use Rattle.warp.specs.Parked.{parkedIn, CutInTwo}
-use Rattle.warp.proofs.Chain.{Good, good, covered, fewer, chain-step, chain-set, chain-more}
+use Rattle.warp.proofs.Chain.{Good, good, chain-covered, chain-fewer, chain-step, chain-set, chain-more}
 
 -- active lanes that disagree: those of e, some but not all, go to p
 pub record Cuts (e p : ℕ) (w : Warp) : Type 0 where
@@ -33,7 +34,7 @@ pub record Cuts (e p : ℕ) (w : Warp) : Type 0 where
   pub aligned : p % 4 ≡ 0
 
 -- a step that leaves the splits alone
-pub record Leaves (w v : Warp) : Type 0 where
+pub record MoveLeaves (w v : Warp) : Type 0 where
   pub splits : v .splits ≡ w .splits
   pub depth : v .depth ≡ w .depth
   pub mask : v .mask ≡ w .mask
@@ -42,23 +43,23 @@ pub record Leaves (w v : Warp) : Type 0 where
 pub data Moves (w v : Warp) : Type 0 where
   opens : (e p : ℕ) → Cuts e p w → v ≡ openOf e p w → Moves w v
   joins : v ≡ joinOf w → Moves w v
-  leaves : Leaves w v → Moves w v
+  leaves : MoveLeaves w v → Moves w v
 
 -- what every step keeps of the splits
 pub record Held (w : Warp) : Type 0 where
   pub long : length (w .splits) ≡ splitCount
-  pub some : 0 < w .fixed .launchmask
-  pub small : w .fixed .launchmask < 2 ^ 32
-  pub chain : chainOf (w .fixed .launchmask) (w .splits) (w .depth) (w .mask) ≡ true
+  pub some : 0 < w .fixed .launchMask
+  pub small : w .fixed .launchMask < 2 ^ 32
+  pub chain : chainOf (w .fixed .launchMask) (w .splits) (w .depth) (w .mask) ≡ true
 
 -- Each launched lane is active or parked in just one open split, and no other lane is either.
-pub lanes-covered : (l : ℕ) (w : Warp) → Held w → bitAt l (w .mask) + parkedIn l (w .splits) (w .depth) ≡ bitAt l (w .fixed .launchmask)
-lanes-covered l w h = covered l (w .fixed .launchmask) (w .splits) (w .depth) (w .mask) (h .chain)
+pub lanes-covered : (l : Lane) (w : Warp) → Held w → bitAt (l .0) (w .mask) + parkedIn l (w .splits) (w .depth) ≡ bitAt (l .0) (w .fixed .launchMask)
+lanes-covered l w h = chain-covered l (w .fixed .launchMask) (w .splits) (w .depth) (w .mask) (h .chain)
 
 -- Fewer splits are open than lanes were launched.
-pub splits-fewer : (w : Warp) → Held w → w .depth < ones (w .fixed .launchmask)
+pub splits-fewer : (w : Warp) → Held w → w .depth < ones (w .fixed .launchMask)
 splits-fewer w h =
-    let f = fewer (w .fixed .launchmask) (w .splits) (w .depth) (w .mask) (h .some) (h .chain) in
+    let f = chain-fewer (w .fixed .launchMask) (w .splits) (w .depth) (w .mask) (h .some) (h .chain) in
     omega (arith, ones-pos (w .mask) (f .1))
 
 -- ---- a split opens
@@ -68,23 +69,23 @@ pub cut-two : (e m : ℕ) → bitAnd e m ≡ e → (e ≡ 0 → ⊥) → (e ≡ 
 cut-two e m i z n = omega (arith, cut-ones m e i, ones-pos e (omega arith), ones-pos (m - e) (omega (arith, and-le-r e m)), and-le-r e m)
 
 -- each open split parks a lane, so that with the active ones they are at most as many as a warp has
-pub room : (w : Warp) → Held w → (w .depth + ones (w .mask) ≤ maxThreads) × (0 < w .mask)
-room w h = omega (arith, fewer (w .fixed .launchmask) (w .splits) (w .depth) (w .mask) (h .some) (h .chain), ones-le 32 (w .fixed .launchmask) (h .small))
+pub room-left : (w : Warp) → Held w → (w .depth + ones (w .mask) ≤ maxThreads) × (0 < w .mask)
+room-left w h = omega (arith, chain-fewer (w .fixed .launchMask) (w .splits) (w .depth) (w .mask) (h .some) (h .chain), ones-le 32 (w .fixed .launchMask) (h .small))
 
 -- The split records never overflow.
 pub fits : (e p : ℕ) (w : Warp) → Held w → Cuts e p w → w .depth < splitCount
-fits e p w h o = omega (arith, room w h, cut-two e (w .mask) (o .within) (o .some) (o .strict))
+fits e p w h o = omega (arith, room-left w h, cut-two e (w .mask) (o .within) (o .some) (o .strict))
 
 -- Opening cuts the active mask in two, the lanes that run and those that are parked.
-pub split-cuts : (e p : ℕ) (w : Warp) → Held w → Cuts e p w → CutInTwo (w .mask) (lastSplit (openOf e p w) .elsemask) (openOf e p w .mask)
+pub cuts-open : (e p : ℕ) (w : Warp) → Held w → Cuts e p w → CutInTwo (w .mask) (lastSplit (openOf e p w) .elseMask) (openOf e p w .mask)
 unfolding openOf
-split-cuts e p w h o =
+cuts-open e p w h o =
     let d : w .depth + 1 - 1 ≡ w .depth = omega arith in
     rw (d, getD-set-same (w .splits) (w .depth) (opened e p w) zeroSplit (omega (arith, h .long, fits e p w h o)))
     (record {
       one = omega (arith, o .some);
       other = omega (arith, and-le-r e (w .mask), o .within, o .strict);
-      lanes = λ l. cut-bit l e (w .mask) (o .within);
+      lanes = λ l. cut-bit (l .0) e (w .mask) (o .within);
     })
 
 held-open : (e p : ℕ) (w : Warp) → Held w → Cuts e p w → Held (openOf e p w)
@@ -95,7 +96,7 @@ held-open e p w h o =
       some = h .some;
       small = h .small;
       chain =
-          rw add-one (chain-more (w .fixed .launchmask) (w .splits) (w .depth) (w .mask - e) (opened e p w)
+          rw add-one (chain-more (w .fixed .launchMask) (w .splits) (w .depth) (w .mask - e) (opened e p w)
           (omega (arith, h .long, fits e p w h o))
           (record { some = o .some; strict = o .strict; within = o .within; aligned = o .aligned; runs = refl })
           (h .chain));
@@ -104,10 +105,10 @@ held-open e p w h o =
 -- ---- JOIN, at the last split
 
 module _ (w : Warp) (h : Held w) (d : w .depth ≡ 0 → ⊥) where
-  last : (splitOkOf (lastSplit w) (w .mask) ≡ true) × (chainOf (w .fixed .launchmask) (w .splits) (w .depth - 1) (lastSplit w .full) ≡ true)
+  last : (splitOkOf (lastSplit w) (w .mask) ≡ true) × (chainOf (w .fixed .launchMask) (w .splits) (w .depth - 1) (lastSplit w .full) ≡ true)
   last =
-      both (splitOkOf (lastSplit w) (w .mask)) (chainOf (w .fixed .launchmask) (w .splits) (w .depth - 1) (lastSplit w .full))
-      (sym (chain-step (w .fixed .launchmask) (w .splits) (w .depth) (w .mask) (omega arith)) ∙ h .chain)
+      both (splitOkOf (lastSplit w) (w .mask)) (chainOf (w .fixed .launchMask) (w .splits) (w .depth - 1) (lastSplit w .full))
+      (sym (chain-step (w .fixed .launchMask) (w .splits) (w .depth) (w .mask) (omega arith)) ∙ h .chain)
 
   pub last-good : Good (lastSplit w) (w .mask)
   last-good = good (lastSplit w) (w .mask) (last .0)
@@ -121,9 +122,9 @@ module _ (w : Warp) (h : Held w) (d : w .depth ≡ 0 → ⊥) where
         some = h .some;
         small = h .small;
         chain =
-            subst (λ (k : ℕ). chainOf (w .fixed .launchmask) (set (w .splits) (w .depth - 1) (turned (lastSplit w))) k (lastSplit w .elsemask) ≡ true) n
-            (chain-more (w .fixed .launchmask) (w .splits) (w .depth - 1) (lastSplit w .elsemask) (turned (lastSplit w))
-            (omega (arith, h .long, room w h, ones-pos (w .mask) (room w h .1)))
+            subst (λ (k : ℕ). chainOf (w .fixed .launchMask) (set (w .splits) (w .depth - 1) (turned (lastSplit w))) k (lastSplit w .elseMask) ≡ true) n
+            (chain-more (w .fixed .launchMask) (w .splits) (w .depth - 1) (lastSplit w .elseMask) (turned (lastSplit w))
+            (omega (arith, h .long, room-left w h, ones-pos (w .mask) (room-left w h .1)))
             (record { some = g .some; strict = g .strict; within = g .within; aligned = g .aligned; runs = refl })
             (last .1));
       }
@@ -134,10 +135,10 @@ module _ (w : Warp) (h : Held w) (d : w .depth ≡ 0 → ⊥) where
         long = length-set (w .splits) (w .depth - 1) zeroSplit ∙ h .long;
         some = h .some;
         small = h .small;
-        chain = chain-set (w .fixed .launchmask) (w .splits) (w .depth - 1) zeroSplit (w .depth - 1) (lastSplit w .full) (omega arith) ∙ last .1;
+        chain = chain-set (w .fixed .launchMask) (w .splits) (w .depth - 1) zeroSplit (w .depth - 1) (lastSplit w .full) (omega arith) ∙ last .1;
       }
 
-held-leaves : (w v : Warp) → Held w → Leaves w v → Held v
+held-leaves : (w v : Warp) → Held w → MoveLeaves w v → Held v
 held-leaves w v h l =
     record {
       long = rw (l .splits) (h .long);
@@ -151,7 +152,7 @@ unfolding joinOf
 held-join w h =
     by-cond Held (eqb (w .depth) 0) _ _ (λ z. held-leaves w _ h (record { splits = refl; depth = refl; mask = refl; fixed = refl }))
     (λ z. by-cond Held (eqb (w .pc) (lastSplit w .rpc)) _ _
-    (λ q. by-cond Held (lastSplit w .phasetwo) _ _ (λ s. held-close w h (eqb-false _ _ z)) (λ s. held-turn w h (eqb-false _ _ z)))
+    (λ q. by-cond Held (lastSplit w .phaseTwo) _ _ (λ s. held-close w h (eqb-false _ _ z)) (λ s. held-turn w h (eqb-false _ _ z)))
     (λ q. held-leaves w _ h (record { splits = refl; depth = refl; mask = refl; fixed = refl })))
 
 -- What is held is held after a step.
@@ -192,16 +193,16 @@ unfolding joinOf
 after-join k m w u =
     by-cond (After k m) (eqb (w .depth) 0) _ _ (λ z. still (record { above = u .above; full = u .full }))
     (λ z. by-cond (After k m) (eqb (w .pc) (lastSplit w .rpc)) _ _
-    (λ q. by-cond (After k m) (lastSplit w .phasetwo) _ _ (λ s. after-close k m w u)
+    (λ q. by-cond (After k m) (lastSplit w .phaseTwo) _ _ (λ s. after-close k m w u)
     (λ s. still (record { above = u .above; full = full-set (w .splits) (w .depth - 1) k (turned (lastSplit w)) refl ∙ u .full })))
     (λ q. still (record { above = u .above; full = u .full })))
 
-pub after : (k m : ℕ) (w v : Warp) → Under k m w → Moves w v → After k m v
+pub moved-after : (k m : ℕ) (w v : Warp) → Under k m w → Moves w v → After k m v
 unfolding openOf
-after k m w v u (opens e p o q) =
+moved-after k m w v u (opens e p o q) =
     rw q (still (record { above = omega arith; full = ap (λ (s : Split). s .full) (getD-set-other (w .splits) (w .depth) k _ zeroSplit (omega arith)) ∙ u .full }))
-after k m w v u (joins q) = rw q (after-join k m w u)
-after k m w v u (leaves l) = still (record { above = rw (l .depth) (u .above); full = rw (l .splits) (u .full) })
+moved-after k m w v u (joins q) = rw q (after-join k m w u)
+moved-after k m w v u (leaves l) = still (record { above = rw (l .depth) (u .above); full = rw (l .splits) (u .full) })
 
 begun : (e p : ℕ) (w : Warp) → Held w → Cuts e p w → Under (w .depth) (w .mask) (openOf e p w)
 unfolding openOf
@@ -209,21 +210,21 @@ begun e p w h o =
     record { above = omega arith; full = ap (λ (s : Split). s .full) (getD-set-same (w .splits) (w .depth) _ zeroSplit (omega (arith, h .long, fits e p w h o))) }
 
 -- any number of steps from w to v, through all of which more than k splits are open
-pub data Above (k : ℕ) : Warp → Warp → Type 0 where
-  here : {w : Warp} → k < w .depth → Above k w w
-  on : {w v u : Warp} → Above k w v → Moves v u → k < u .depth → Above k w u
+pub data OpenAbove (k : ℕ) : Warp → Warp → Type 0 where
+  here : {w : Warp} → k < w .depth → OpenAbove k w w
+  on : {w v u : Warp} → OpenAbove k w v → Moves v u → k < u .depth → OpenAbove k w u
 
-along : (k m : ℕ) (w v : Warp) → Under k m w → Above k w v → Under k m v
+along : (k m : ℕ) (w v : Warp) → Under k m w → OpenAbove k w v → Under k m v
 along k m w v u (here a) = u
-along k m w v u (on {v = x} p s a) = stays (after k m x v (along k m w x u p) s)
+along k m w v u (on {v = x} p s a) = stays (moved-after k m x v (along k m w x u p) s)
   where
     stays : After k m v → Under k m v
     stays (still y) = y
     stays (back d e) = absurd (omega arith)
 
 -- When the count of open splits first falls back to what it was before a split, the mask is the one held just before that split.
-pub restored : (e p : ℕ) (w u z : Warp) → Held w → Cuts e p w → Above (w .depth) (openOf e p w) u → Moves u z → z .depth ≤ w .depth → z .mask ≡ w .mask
-restored e p w u z h o a s d = falls (after (w .depth) (w .mask) u z (along (w .depth) (w .mask) (openOf e p w) u (begun e p w h o) a) s)
+pub mask-restored : (e p : ℕ) (w u z : Warp) → Held w → Cuts e p w → OpenAbove (w .depth) (openOf e p w) u → Moves u z → z .depth ≤ w .depth → z .mask ≡ w .mask
+mask-restored e p w u z h o a s d = falls (moved-after (w .depth) (w .mask) u z (along (w .depth) (w .mask) (openOf e p w) u (begun e p w h o) a) s)
   where
     falls : After (w .depth) (w .mask) z → z .mask ≡ w .mask
     falls (still y) = absurd (omega arith)

@@ -22,11 +22,11 @@ module _ (w : Warp) (d : w .depth ≡ 0 → ⊥) where
   join-off p = simp (ne-eqb _ _ d, ne-eqb _ _ p)
 
   module _ (p : w .pc ≡ lastSplit w .rpc) where
-    pub join-turn : lastSplit w .phasetwo ≡ false → turnOf (lastSplit w) w ≡ joinOf w
+    pub join-turn : lastSplit w .phaseTwo ≡ false → turnOf (lastSplit w) w ≡ joinOf w
     unfolding joinOf
     join-turn s = simp (ne-eqb _ _ d, eq-eqb _ _ p, s)
 
-    pub join-close : lastSplit w .phasetwo ≡ true → closeOf (lastSplit w) w ≡ joinOf w
+    pub join-close : lastSplit w .phaseTwo ≡ true → closeOf (lastSplit w) w ≡ joinOf w
     unfolding joinOf
     join-close s = simp (ne-eqb _ _ d, eq-eqb _ _ p, s)
 

@@ -63,6 +63,6 @@ csrNew Rw old y = y
 csrNew Rs old y = bitOr old y
 csrNew Rc old y = old - bitAnd old y
 
--- CSR n goes to rd, and changes by the operand y, which field rs1 names or is
+-- CSR n goes to rd as it was, and changes by the operand y, which field rs1 names or is
 unfoldable pub csrDone : CsrOp → ℕ → XReg → ℕ → ℕ → Warp → Warp
 csrDone op n rd rs1 y w = next (writeX rd (csrAt n w) (cond (writesOf op rs1) (withCsr n (csrNew op (csrAt n w) y) w) w))

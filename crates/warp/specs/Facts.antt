@@ -13,9 +13,9 @@ pub record FixedOk (f : Fixed) : Type 0 where
   pub lanes : (1 ≤ f .numt) × (f .numt ≤ maxThreads)
   pub warps : (1 ≤ f .numw) × (f .numw ≤ maxWarps)
   pub wid : f .wid < f .numw
-  pub some : 0 < f .launchmask
-  pub mask : f .launchmask < 2 ^ f .numt
-  pub code : f .codebase % 4 ≡ 0
+  pub some : 0 < f .launchMask
+  pub mask : f .launchMask < 2 ^ f .numt
+  pub code : f .codeBase % 4 ≡ 0
 
 pub record Formed (w : Warp) : Type 0 where
   pub long : length (w .splits) ≡ splitCount
@@ -25,5 +25,5 @@ pub record Formed (w : Warp) : Type 0 where
   pub deep : w .depth ≤ splitCount
   pub unused : allZero (drop (w .depth) (w .splits)) ≡ true
   pub one : not (w .ended && w .waiting) ≡ true
-  pub chain : chainOf (w .fixed .launchmask) (w .splits) (w .depth) (w .mask) ≡ true
+  pub chain : chainOf (w .fixed .launchMask) (w .splits) (w .depth) (w .mask) ≡ true
   pub quiet : not ((w .ended || w .waiting) && ltb 0 (w .depth)) ≡ true

@@ -11,7 +11,7 @@ use Rattle.word.specs.Word.{addOf, extendOf}
 
 -- the split that opens: the lanes of e want p
 abbrev pub opened : ℕ → ℕ → Warp → Split
-opened e p w = record { rpc = w .rpc; full = w .mask; elsemask = e; elsepc = p; phasetwo = false }
+opened e p w = record { rpc = w .rpc; full = w .mask; elseMask = e; elsePc = p; phaseTwo = false }
 
 -- a split opens; the PC + 4 lanes run first
 unfoldable pub openOf : ℕ → ℕ → Warp → Warp
@@ -27,20 +27,20 @@ lastSplit w = getD (w .splits) (w .depth - 1) zeroSplit
 
 -- phase one goes to phase two: the else lanes run at the else PC
 abbrev pub turned : Split → Split
-turned s = record { rpc = s .rpc; full = s .full; elsemask = s .elsemask; elsepc = s .elsepc; phasetwo = true }
+turned s = record { rpc = s .rpc; full = s .full; elseMask = s .elseMask; elsePc = s .elsePc; phaseTwo = true }
 
 abbrev pub turnOf : Split → Warp → Warp
-turnOf s w = withPc (s .elsepc) (withSplits (set (w .splits) (w .depth - 1) (turned s)) (w .depth) (s .elsemask) w)
+turnOf s w = withPc (s .elsePc) (withSplits (set (w .splits) (w .depth - 1) (turned s)) (w .depth) (s .elseMask) w)
 
--- in phase two the split closes, and the PC stays on the JOIN
+-- in phase two the split closes: its full mask comes back, and the PC stays on the JOIN, so that splits with one rpc all close (both house rules)
 abbrev pub closeOf : Split → Warp → Warp
 closeOf s w = withSplits (set (w .splits) (w .depth - 1) zeroSplit) (w .depth - 1) (s .full) w
 
--- JOIN
+-- JOIN: where the PC is the last split's rpc, its next phase; else PC + 4 alone
 unfoldable pub joinOf : Warp → Warp
 joinOf w =
     cond (eqb (w .depth) 0) (next w)
-    (cond (eqb (w .pc) (lastSplit w .rpc)) (cond (lastSplit w .phasetwo) (closeOf (lastSplit w) w) (turnOf (lastSplit w) w)) (next w))
+    (cond (eqb (w .pc) (lastSplit w .rpc)) (cond (lastSplit w .phaseTwo) (closeOf (lastSplit w) w) (turnOf (lastSplit w) w)) (next w))
 
 -- SETRPC: rs1 + the sign-extended immediate i to RPC and rd
 unfoldable pub setRpcOf : XReg → XReg → ℕ → Warp → Warp

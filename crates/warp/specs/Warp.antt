@@ -33,7 +33,7 @@ maxWarps = 32
 -- ---- zero values
 
 abbrev pub zeroSplit : Split
-zeroSplit = record { rpc = 0; full = 0; elsemask = 0; elsepc = 0; phasetwo = false }
+zeroSplit = record { rpc = 0; full = 0; elseMask = 0; elsePc = 0; phaseTwo = false }
 
 abbrev pub zeroFixed : Fixed
 zeroFixed =
@@ -41,9 +41,9 @@ zeroFixed =
       numt = 0;
       numw = 0;
       wid = 0;
-      launchmask = 0;
-      codebase = 0;
-      database = 0;
+      launchMask = 0;
+      codeBase = 0;
+      dataBase = 0;
       knl = 0;
       wgid = 0;
       lds = 0;
@@ -123,7 +123,7 @@ next w = withPc (nextPc w) w
 abbrev pub aligned : ℕ → Bool
 aligned p = eqb (p % 4) 0
 
--- a jump that keeps the next PC in rd
+-- a jump to p that keeps the next PC in rd, the link; p was computed before rd is written
 abbrev pub linked : XReg → ℕ → Warp → Warp
 linked rd p w = withPc p (writeX rd (nextPc w) w)
 

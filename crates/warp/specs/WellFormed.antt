@@ -19,9 +19,9 @@ fixedOkOf f =
     (between 1 (f .numt) maxThreads
     ∷ between 1 (f .numw) maxWarps
     ∷ ltb (f .wid) (f .numw)
-    ∷ not (eqb (f .launchmask) 0)
-    ∷ ltb (f .launchmask) (2 ^ f .numt)
-    ∷ aligned (f .codebase)
+    ∷ not (eqb (f .launchMask) 0)
+    ∷ ltb (f .launchMask) (2 ^ f .numt)
+    ∷ aligned (f .codeBase)
     ∷ [])
 
 -- what a launch and a card are tested for: the entry PC too
@@ -30,20 +30,20 @@ launchOkOf l = fixedOkOf (l .fixed) && aligned (l .entry)
 
 -- an open split's running part is full less else in phase one, else in phase two
 abbrev pub runningOf : Split → ℕ
-runningOf s = cond (s .phasetwo) (s .elsemask) (s .full - s .elsemask)
+runningOf s = cond (s .phaseTwo) (s .elseMask) (s .full - s .elseMask)
 
 -- its other full lanes are parked in it
 abbrev pub parkedOf : Split → ℕ
-parkedOf s = cond (s .phasetwo) (s .full - s .elsemask) (s .elsemask)
+parkedOf s = cond (s .phaseTwo) (s .full - s .elseMask) (s .elseMask)
 
 -- an open split whose running part is m: a non-empty else mask strictly inside the full mask, and an else PC that is a multiple of 4
 unfoldable pub splitOkOf : Split → ℕ → Bool
 splitOkOf s m =
     every
-    (not (eqb (s .elsemask) 0)
-    ∷ inside (s .elsemask) (s .full)
-    ∷ not (eqb (s .elsemask) (s .full))
-    ∷ aligned (s .elsepc)
+    (not (eqb (s .elseMask) 0)
+    ∷ inside (s .elseMask) (s .full)
+    ∷ not (eqb (s .elseMask) (s .full))
+    ∷ aligned (s .elsePc)
     ∷ eqb (runningOf s) m
     ∷ [])
 
@@ -53,7 +53,7 @@ chainOf launch ss zero m = eqb m launch
 chainOf launch ss (suc d) m = splitOkOf (getD ss d zeroSplit) m && chainOf launch ss d (getD ss d zeroSplit .full)
 
 abbrev pub isZero : Split → Bool
-isZero s = every (eqb (s .rpc) 0 ∷ eqb (s .full) 0 ∷ eqb (s .elsemask) 0 ∷ eqb (s .elsepc) 0 ∷ not (s .phasetwo) ∷ [])
+isZero s = every (eqb (s .rpc) 0 ∷ eqb (s .full) 0 ∷ eqb (s .elseMask) 0 ∷ eqb (s .elsePc) 0 ∷ not (s .phaseTwo) ∷ [])
 
 unfoldable pub allZero : List Split → Bool
 allZero [] = true
@@ -68,6 +68,6 @@ wellFormedOf w =
     ∷ leb (w .depth) splitCount
     ∷ allZero (drop (w .depth) (w .splits))
     ∷ not (w .ended && w .waiting)
-    ∷ chainOf (w .fixed .launchmask) (w .splits) (w .depth) (w .mask)
+    ∷ chainOf (w .fixed .launchMask) (w .splits) (w .depth) (w .mask)
     ∷ not ((w .ended || w .waiting) && ltb 0 (w .depth))
     ∷ [])

@@ -10,13 +10,13 @@ const WARPS: u32 = 32;
 
 pub const SPLITS: usize = 31;
 
-// An open split: the lanes of elsemask want elsepc; in phase two they run.
+// An open split: the lanes of elseMask want elsePc; in phase two they run.
 pub struct Split {
     pub rpc: u32,
     pub full: u32,
-    pub elsemask: u32,
-    pub elsepc: u32,
-    pub phasetwo: bool,
+    pub elseMask: u32,
+    pub elsePc: u32,
+    pub phaseTwo: bool,
 }
 
 // What a launch sets and no step changes.
@@ -24,9 +24,9 @@ pub struct Fixed {
     pub numt: u32,
     pub numw: u32,
     pub wid: u32,
-    pub launchmask: u32,
-    pub codebase: u32,
-    pub database: u32,
+    pub launchMask: u32,
+    pub codeBase: u32,
+    pub dataBase: u32,
     pub knl: u32,
     pub wgid: u32,
     pub lds: u32,
@@ -61,9 +61,9 @@ pub fn zero_split() -> Split
     Split {
         rpc: 0,
         full: 0,
-        elsemask: 0,
-        elsepc: 0,
-        phasetwo: false,
+        elseMask: 0,
+        elsePc: 0,
+        phaseTwo: false,
     }
 }
 
@@ -74,9 +74,9 @@ fn zero_fixed() -> Fixed
         numt: 0,
         numw: 0,
         wid: 0,
-        launchmask: 0,
-        codebase: 0,
-        database: 0,
+        launchMask: 0,
+        codeBase: 0,
+        dataBase: 0,
         knl: 0,
         wgid: 0,
         lds: 0,
@@ -131,7 +131,7 @@ pub fn fixed_ok(f: Fixed) -> bool
     (1 <= f.numt)
         & (((1 <= f.numw) & (f.numw <= WARPS))
             & ((f.wid < f.numw)
-                & ((f.launchmask != 0) & (((f.launchmask as u64) < room) & (f.codebase % 4 == 0)))))
+                & ((f.launchMask != 0) & (((f.launchMask as u64) < room) & (f.codeBase % 4 == 0)))))
 }
 
 pub fn launch_ok(l: Launch) -> bool

@@ -1,4 +1,4 @@
--- The laws of signed words that the proofs cite. Assumes nothing.
+-- The laws of signed words that the proofs cite.
 use mathlib.Core.Path.{_≡_, refl, sym, ap, ap₂, _∙_, subst}
 use mathlib.Core.Bool.{Bool, true, false}
 use Prim.Native.Nat.{ℕ, zero, suc, _+_, _-_, _*_, _/_, _%_, _^_, _≤_, _<_, zero-le}
@@ -23,8 +23,8 @@ lower x h k =
     ∙ (rw (lt-ltb (x - 2147483648) 2147483648 (omega arith), le-ltb x 2147483648 h) (ap negsuc (omega arith)))
 
 -- what an i32 local that came of `value` is read as
-pub read : (r : ℤ) (a : ℕ) → a < 2 ^ 32 → r ≡ signed a → toZ w32 (ofZ w32 r) ≡ signed a
-read r a h e = ap (λ (z : ℤ). toZ w32 (ofZ w32 z)) e ∙ toZ-ofZ w32 (signed a) (signed-fits a h)
+pub read-back : (r : ℤ) (a : ℕ) → a < 2 ^ 32 → r ≡ signed a → toZ w32 (ofZ w32 r) ≡ signed a
+read-back r a h e = ap (λ (z : ℤ). toZ w32 (ofZ w32 z)) e ∙ toZ-ofZ w32 (signed a) (signed-fits a h)
 
 -- an operation on two locals, at any operation whose result 32 bits hold
 pub through : (f : ℤ → ℤ → ℤ) {p q x y : ℤ} → p ≡ x → q ≡ y → SFits w32 (f x y) → toZ w32 (ofZ w32 (f p q)) ≡ f x y
@@ -33,14 +33,14 @@ through f {x = x} {y = y} e k h = ap₂ (λ (u v : ℤ). toZ w32 (ofZ w32 (f u v
 -- a negative number, raised by 2 ^ 31
 pub raised : (z : ℤ) → SFits w32 z → ltZ z (pos 0) ≡ true → z -ℤ negsuc 2147483647 ≡ pos (asWord z - 2147483648)
 raised (pos n) h t = absurd (omega (arith, ltb-true n 0 t))
-raised (negsuc n) h t = rw (le-ltb 2147483648 (suc n) (h .sfits)) (ap pos (omega arith))
+raised (negsuc n) h t = rw (le-ltb 2147483648 (suc n) (h .sfits)) (ap pos (omega (arith, h .sfits)))
 
 pub high : (z : ℤ) → SFits w32 z → ltZ z (pos 0) ≡ true → (2 ^ 31 ≤ asWord z) × (asWord z < 2 ^ 32)
 high (pos n) h t = absurd (omega (arith, ltb-true n 0 t))
 high (negsuc n) h t = omega (arith, h .sfits)
 
 pub plain : (z : ℤ) → SFits w32 z → ltZ z (pos 0) ≡ false → (z ≡ pos (asWord z)) × (asWord z < 2 ^ 31)
-plain (pos n) h t = (refl, h .sfits)
+plain (pos n) h t = (ap pos (omega (arith, h .sfits)), omega (arith, h .sfits))
 plain (negsuc n) h t = absurd (subst (λ (b : Bool). T b) t tt)
 
 -- division by -1
@@ -77,7 +77,7 @@ quot-fits (negsuc a) (negsuc (suc b)) h n = record { sfits = div-lt-iff-lt-mul (
         two b = omega arith
 
 not-minus-one : (b : ℕ) → b < 2 ^ 32 → (b ≡ 4294967295 → ⊥) → signed b ≡ negsuc 0 → ⊥
-not-minus-one b h n e = n (sym (ofZ-toZ w32 b (record { fits = h })) ∙ ap asWord e)
+not-minus-one b h n e = n (sym (ofZ-toZ w32 b (record { fits = h })) ∙ ap (ofZ w32) e)
 
 -- two i32 locals p and q that came of the words a and b, b neither 0 nor -1: what dividing them asks, and what quotient and remainder are
 module _ (p q : ℤ) (a b : ℕ) (h : a < 2 ^ 32) (k : b < 2 ^ 32) (e : p ≡ signed a) (f : q ≡ signed b) (n : b ≡ 0 → ⊥) (m : b ≡ 4294967295 → ⊥) where
@@ -86,15 +86,15 @@ module _ (p q : ℤ) (a b : ℕ) (h : a < 2 ^ 32) (k : b < 2 ^ 32) (e : p ≡ si
 
   pub divides : (0 < ofZ w32 q) × SFits w32 (quotZ (toZ w32 (ofZ w32 p)) (toZ w32 (ofZ w32 q)))
   divides = (
-    subst (λ (i : ℕ). 0 < i) (sym (ap asWord f ∙ ofZ-toZ w32 b (record { fits = k }))) (omega arith),
-    subst (λ (z : ℤ). SFits w32 z) (sym (ap₂ quotZ (read p a h e) (read q b k f))) quotient,
+    subst (λ (i : ℕ). 0 < i) (sym (ap (ofZ w32) f ∙ ofZ-toZ w32 b (record { fits = k }))) (omega arith),
+    subst (λ (z : ℤ). SFits w32 z) (sym (ap₂ quotZ (read-back p a h e) (read-back q b k f))) quotient,
   )
 
   pub quot-read : toZ w32 (ofZ w32 (quotZ (toZ w32 (ofZ w32 p)) (toZ w32 (ofZ w32 q)))) ≡ quotZ (signed a) (signed b)
-  quot-read = through quotZ (read p a h e) (read q b k f) quotient
+  quot-read = through quotZ (read-back p a h e) (read-back q b k f) quotient
 
   pub rem-read : toZ w32 (ofZ w32 (remZ (toZ w32 (ofZ w32 p)) (toZ w32 (ofZ w32 q)))) ≡ remZ (signed a) (signed b)
-  rem-read = through remZ (read p a h e) (read q b k f) (sfits-le (mag-rem (signed a) (signed b)) (signed-fits a h))
+  rem-read = through remZ (read-back p a h e) (read-back q b k f) (sfits-le (mag-rem (signed a) (signed b)) (signed-fits a h))
 
 -- the product of two words fits 64 bits, and its upper half is a word
 product-lt : (a b : ℕ) → a < 2 ^ 32 → b < 2 ^ 32 → a * b < 2 ^ 64
@@ -129,10 +129,10 @@ wide h = record { sfits = lt-of-lt-of-le (h .sfits) (lit≤ tt) }
 
 -- what an i64 is read as that was cast from an i32 that came of `value`, and one cast from a word
 pub wide-read : (r : ℤ) (a : ℕ) → a < 2 ^ 32 → r ≡ signed a → toZ w64 (ofZ w64 (toZ w32 (ofZ w32 r))) ≡ signed a
-wide-read r a h e = ap (λ (z : ℤ). toZ w64 (ofZ w64 z)) (read r a h e) ∙ toZ-ofZ w64 (signed a) (wide (signed-fits a h))
+wide-read r a h e = ap (λ (z : ℤ). toZ w64 (ofZ w64 z)) (read-back r a h e) ∙ toZ-ofZ w64 (signed a) (wide (signed-fits a h))
 
 pub wide-fits : (r : ℤ) (a : ℕ) → a < 2 ^ 32 → r ≡ signed a → SFits w64 (toZ w32 (ofZ w32 r))
-wide-fits r a h e = subst (λ (z : ℤ). SFits w64 z) (sym (read r a h e)) (wide (signed-fits a h))
+wide-fits r a h e = subst (λ (z : ℤ). SFits w64 z) (sym (read-back r a h e)) (wide (signed-fits a h))
 
 pub wide-word : (x : ℕ) → x < 2 ^ 32 → toZ w64 x ≡ pos x
 wide-word x h = toZ-pos w64 x (omega arith)
@@ -161,7 +161,7 @@ shr-read z m e h = ap (λ (u : ℤ). toZ w32 (ofZ w32 (shrZ u m))) e ∙ toZ-ofZ
 
 -- a remainder by -1 is 0
 pub rem-minus-one : (z : ℤ) → 0 ≡ asWord (remZ z (negsuc 0))
-rem-minus-one (pos a) = sym (mod-one a)
+rem-minus-one (pos a) = ap (λ (n : ℕ). asWord (pos n)) (sym (mod-one a))
 rem-minus-one (negsuc a) = ap (λ (n : ℕ). asWord (negℤ (pos n))) (sym (mod-one (suc a)))
 
 -- half of 2 ^ n, as the code makes it, for a field of n bits

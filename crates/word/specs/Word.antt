@@ -1,31 +1,29 @@
 -- The 32-bit word operations, over whole numbers. A word is a number below 2 ^ 32. Signed values are the language's own readings of a word.
-use mathlib.Core.Bool.{Bool, true, false, not}
+use mathlib.Core.Bool.{Bool, not, cond}
 use Prim.Native.Nat.{ℕ, _+_, _-_, _*_, _/_, _%_, _^_}
 use lib.Dec.{ltb, leb, eqb}
-use lib.IntN.{ℤ, pos, _*ℤ_}
+use lib.IntN.{ℤ, pos, negsuc, _*ℤ_}
 use lib.Signed.{ltZ, quotZ, remZ, shrZ}
 use lib.Bits.{bitAnd, bitOr, bitXor}
 use mir.Syntax.{w32}
-use mir.Val.{toZ, ofZ}
+use mir.Val.{toZ}
 use Rattle.word.specs.declared.Op.{Op}
-use Rattle.word.specs.declared.Op.the-variants.{Add, Sub, Rsub, Sll, Srl, Sra, Slt, Sltu, And, Or, Xor, Mul, Mulh, Mulhsu, Mulhu, Div, Divu, Rem, Remu, Min, Minu, Max, Maxu, Seq, Sne, Sle, Sleu, Sgt, Sgtu, Move}
+use Rattle.word.specs.declared.Op.the-variants.{Add, Sub, Rsub, Sll, Srl, Sra, Slt, Sltu, And, Or, Xor, Mul, Mulh, Mulhsu, Mulhu, Div, Divu, Rem, Remu, Min, Minu, Max, Maxu, Seq, Sne, Sle, Sleu, Sgt, Sgtu}
 use Rattle.word.specs.declared.Cond.{Cond}
 use Rattle.word.specs.declared.Cond.the-variants.{Eq, Ne, Lt, Ge, Ltu, Geu}
 
-abbrev pub pick : Bool → ℕ → ℕ → ℕ
-pick true a b = a
-pick false a b = b
-
 -- a test as a word: 1 where it holds, else 0
 abbrev pub flagOf : Bool → ℕ
-flagOf b = pick b 1 0
+flagOf b = cond b 1 0
 
--- a word's signed value, and the word of a signed value
+-- a word's signed value: from 2 ^ 31 on, the word less 2 ^ 32
 abbrev pub signed : ℕ → ℤ
 signed a = toZ w32 a
 
+-- the word of a signed value, wrapped; `negsuc n` is -(n + 1)
 abbrev pub asWord : ℤ → ℕ
-asWord z = ofZ w32 z
+asWord (pos n) = n % 2 ^ 32
+asWord (negsuc n) = 2 ^ 32 - 1 - n % 2 ^ 32
 
 abbrev pub lessOf : ℕ → ℕ → Bool
 lessOf a b = ltZ (signed a) (signed b)
@@ -58,20 +56,21 @@ mulhsuOf a b = asWord (shrZ (signed a *ℤ pos b) (2 ^ 32))
 abbrev pub mulhuOf : ℕ → ℕ → ℕ
 mulhuOf a b = a * b / 2 ^ 32
 
--- by zero: -1. -2^31 by -1 is no case of its own: the quotient 2^31 is the word of -2^31
+-- by zero: -1. -2^31 by -1 is no case of its own: the quotient 2^31 has the word of -2^31
 abbrev pub divOf : ℕ → ℕ → ℕ
-divOf a b = pick (eqb b 0) (2 ^ 32 - 1) (asWord (quotZ (signed a) (signed b)))
+divOf a b = cond (eqb b 0) (2 ^ 32 - 1) (asWord (quotZ (signed a) (signed b)))
 
 abbrev pub divuOf : ℕ → ℕ → ℕ
-divuOf a b = pick (eqb b 0) (2 ^ 32 - 1) (a / b)
+divuOf a b = cond (eqb b 0) (2 ^ 32 - 1) (a / b)
 
 -- by zero: the dividend
 abbrev pub remOf : ℕ → ℕ → ℕ
-remOf a b = pick (eqb b 0) a (asWord (remZ (signed a) (signed b)))
+remOf a b = cond (eqb b 0) a (asWord (remZ (signed a) (signed b)))
 
 abbrev pub remuOf : ℕ → ℕ → ℕ
-remuOf a b = pick (eqb b 0) a (a % b)
+remuOf a b = cond (eqb b 0) a (a % b)
 
+-- a is the word of rs1 or vs2, b that of the other operand
 abbrev pub applyOf : Op → ℕ → ℕ → ℕ
 applyOf Add a b = addOf a b
 applyOf Sub a b = subOf a b
@@ -92,17 +91,16 @@ applyOf Div a b = divOf a b
 applyOf Divu a b = divuOf a b
 applyOf Rem a b = remOf a b
 applyOf Remu a b = remuOf a b
-applyOf Min a b = pick (lessOf a b) a b
-applyOf Minu a b = pick (ltb a b) a b
-applyOf Max a b = pick (lessOf a b) b a
-applyOf Maxu a b = pick (ltb a b) b a
+applyOf Min a b = cond (lessOf a b) a b
+applyOf Minu a b = cond (ltb a b) a b
+applyOf Max a b = cond (lessOf a b) b a
+applyOf Maxu a b = cond (ltb a b) b a
 applyOf Seq a b = flagOf (eqb a b)
 applyOf Sne a b = flagOf (not (eqb a b))
 applyOf Sle a b = flagOf (not (lessOf b a))
 applyOf Sleu a b = flagOf (leb a b)
 applyOf Sgt a b = flagOf (lessOf b a)
 applyOf Sgtu a b = flagOf (ltb b a)
-applyOf Move a b = b
 
 abbrev pub holdsOf : Cond → ℕ → ℕ → Bool
 holdsOf Eq a b = eqb a b
@@ -114,4 +112,4 @@ holdsOf Geu a b = leb b a
 
 -- the word of an n-bit field whose highest bit is its sign: from half of 2 ^ n on, the field less 2 ^ n, wrapped
 abbrev pub extendOf : ℕ → ℕ → ℕ
-extendOf n x = pick (ltb x (2 ^ (n - 1))) x (x + 2 ^ 32 - 2 ^ n)
+extendOf n x = cond (ltb x (2 ^ (n - 1))) x (x + 2 ^ 32 - 2 ^ n)

@@ -1,10 +1,11 @@
 // The 32-bit word operations that scalar and lane instructions share.
 ghost use mathlib.Core.Path.{_≡_};
+ghost use mathlib.Core.Bool.{cond};
 ghost use Prim.Native.Nat.{_≤_, _<_, _^_};
 ghost use lib.Dec.{ltb};
-ghost use Rattle.word.specs.Word.{signed, asWord, lessOf, flagOf, pick, addOf, subOf, sllOf, srlOf, sraOf, mulOf, mulhOf, mulhsuOf, mulhuOf, divOf, divuOf, remOf, remuOf, applyOf, holdsOf, extendOf};
+ghost use Rattle.word.specs.Word.{signed, asWord, lessOf, flagOf, addOf, subOf, sllOf, srlOf, sraOf, mulOf, mulhOf, mulhsuOf, mulhuOf, divOf, divuOf, remOf, remuOf, applyOf, holdsOf, extendOf};
 
-// What an instruction does with two words. Slt and Sltu are a lane compare too; the names from Seq on are lane compares, and Move gives the second word.
+// What an instruction does with two words. Slt and Sltu are a lane compare too; the names from Seq on are lane compares.
 pub enum Op {
     Add,
     Sub,
@@ -35,7 +36,6 @@ pub enum Op {
     Sleu,
     Sgt,
     Sgtu,
-    Move,
 }
 
 // The six conditions of a branch, scalar or by lanes.
@@ -77,7 +77,7 @@ fn flag(b: bool) -> u32
 }
 
 fn choose(b: bool, x: u32, y: u32) -> u32
-    ensures { λ r. ⌜ r ≡ pick b x y ⌝ }
+    ensures { λ r. ⌜ r ≡ cond b x y ⌝ }
 {
     if b { x } else { y }
 }
@@ -232,7 +232,6 @@ pub fn apply(op: Op, a: u32, b: u32) -> u32
         Op::Sleu => flag(a <= b),
         Op::Sgt => slt(b, a),
         Op::Sgtu => sltu(b, a),
-        Op::Move => b,
     }
 }
 
@@ -251,7 +250,7 @@ pub fn holds(c: Cond, a: u32, b: u32) -> bool
 
 // The word of an n-bit field whose highest bit is its sign.
 pub fn extend(n: u32, x: u32) -> u32
-    requires { ⌜ (1 ≤ n) × ((n ≤ 31) × (x < 2 ^ n)) ⌝ }
+    requires { ⌜ (1 ≤ n) × (n ≤ 31) × (x < 2 ^ n) ⌝ }
     ensures { λ r. ⌜ r ≡ extendOf n x ⌝ }
 {
     let half = 1u32 << (n - 1);

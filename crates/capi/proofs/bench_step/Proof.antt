@@ -7,7 +7,9 @@ returns : tie.Need-returns
 returns c = step-size _ _ _ _ (c .if1 .taken)
 
 returns-2 : tie.Need-returns-2
-returns-2 c = step-call _ _ _ _ _ _ _ _ _ (c .before .before .before .before .before .before .run-state .ensures)
+returns-2 c =
+    let four = c .before .before .before .before in
+    step-call _ _ _ _ _ _ _ _ _ (four .before .before .run-state .ensures)
 
 pub bench-step-spec : {M : Type 1} → statement M
 bench-step-spec =

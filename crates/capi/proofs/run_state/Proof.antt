@@ -3,8 +3,8 @@ use mathlib.Core.Path.{_∙_}
 use mathlib.Core.List.{List}
 use lib.ListN.{drop}
 use Rattle.warp.specs.Warp.{scalarCount}
-use Rattle.running.specs.Words.{flatCount, movingCount, fixedCount, movingStart, fixedStart}
-use Rattle.saved.proofs.Laws.{copied}
+use Rattle.layout.specs.Words.{flatCount, movingCount, fixedCount, movingStart, fixedStart}
+use Rattle.layout.proofs.Copies.{copied}
 use Rattle.capi.proofs.Laws.{state-run}
 use borrow.Author.Needs.{needs}
 use Rattle.capi.proofs.run_state.Statement.{statement}
@@ -12,10 +12,14 @@ use Rattle.capi.proofs.run_state.Tie as tie
 
 -- the run, and what was copied before it, last first
 abbrev run : tie.After-put-arg → tie.After-run-words
-run c = c .before .before .before .before .before .before .before .before .before
+run c =
+    let four = c .before .before .before .before in
+    four .before .before .before .before .before
 
 abbrev fixed : tie.After-put-arg → tie.After-copy4
-fixed c = run c .before .before .before .before .before .before .before .before
+fixed c =
+    let four = run c .before .before .before .before in
+    four .before .before .before .before
 
 abbrev moving : tie.After-put-arg → tie.After-copy3
 moving c = fixed c .before .before .before .before
@@ -27,7 +31,9 @@ abbrev scalars : tie.After-put-arg → tie.After-copy
 scalars c = splits c .before .before .before .before
 
 abbrev start : tie.After-put-arg → tie.Start
-start c = scalars c .before .before .before .before .before .before .before
+start c =
+    let four = scalars c .before .before .before .before in
+    four .before .before .before
 
 returns : tie.Need-returns
 returns c =

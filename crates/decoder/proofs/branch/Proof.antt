@@ -1,8 +1,8 @@
--- `decoder::branch` meets its contract: each arm is a row, or rows that adjoin. Assumes nothing.
+-- Each arm is a row, or rows that adjoin.
 use mathlib.Core.List.{[]}
 use native.Mathlib.Omega.{arith}
 use Rattle.isa.specs.Fields.{fieldsOf}
-use Rattle.isa.specs.Scalar.{conditions, branchAs, branchOf}
+use Rattle.isa.specs.Scalar.{conditions, branchAs, branchWord}
 use Rattle.isa.specs.Kinds.{condOf, rowOf}
 use Rattle.isa.proofs.Tables.{range-in, range-out}
 use Rattle.word.specs.declared.Cond.the-variants as C
@@ -10,7 +10,7 @@ use Rattle.decoder.proofs.branch.Statement.{statement}
 use Rattle.decoder.proofs.branch.Tie as tie
 
 pub branch-spec : {M : Type 1} → statement M
-unfolding rowOf branchOf condOf
+unfolding rowOf branchWord condOf
 branch-spec =
     tie.close
     (tie.spec

@@ -1,4 +1,4 @@
--- `decoder::by_funct7` meets its contract: each arm is a row. Assumes nothing.
+-- Each arm is a row.
 use mathlib.Core.List.{[], _∷_}
 use Rattle.answer.specs.Rows.{_⇒_}
 use Rattle.isa.specs.declared.Instr.the-variants.{Refused}

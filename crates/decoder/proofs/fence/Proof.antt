@@ -1,12 +1,12 @@
--- `decoder::fence` meets its contract: the fixed fields have their values, or there is no kind. Assumes nothing.
+-- The fixed fields have their values, or there is no kind.
 use borrow.Author.Needs.{needs}
-use Rattle.isa.specs.Scalar.{fenceOf}
+use Rattle.isa.specs.Scalar.{fenceWord}
 use Rattle.isa.specs.Kinds.{rowOf}
 use Rattle.decoder.proofs.fence.Statement.{statement}
 use Rattle.decoder.proofs.fence.Tie as tie
 
 pub fence-spec : {M : Type 1} → statement M
-unfolding rowOf fenceOf
+unfolding rowOf fenceWord
 fence-spec =
     tie.close
     (tie.spec

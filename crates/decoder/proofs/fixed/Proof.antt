@@ -1,4 +1,4 @@
--- `decoder::fixed` meets its contract: the two cases. Assumes nothing.
+-- The two cases.
 use borrow.Author.Tests.{eq-eqb, ne-eqb}
 use Rattle.isa.specs.Kinds.{rowOf}
 use Rattle.decoder.proofs.fixed.Statement.{statement}

@@ -1,12 +1,12 @@
--- `decoder::jalr` meets its contract: the fixed fields have their values, or there is no kind. Assumes nothing.
+-- The fixed fields have their values, or there is no kind.
 use borrow.Author.Needs.{needs}
-use Rattle.isa.specs.Scalar.{jalrOf}
+use Rattle.isa.specs.Scalar.{jalrWord}
 use Rattle.isa.specs.Kinds.{rowOf}
 use Rattle.decoder.proofs.jalr.Statement.{statement}
 use Rattle.decoder.proofs.jalr.Tie as tie
 
 pub jalr-spec : {M : Type 1} → statement M
-unfolding rowOf jalrOf
+unfolding rowOf jalrWord
 jalr-spec =
     tie.close
     (tie.spec

@@ -1,12 +1,15 @@
--- `decoder::join` meets its contract: the fixed fields have their values, or there is no kind. Assumes nothing.
+-- The fixed fields have their values, or there is no kind.
+use mathlib.Core.Path.{_∙_}
 use borrow.Author.Needs.{needs}
-use Rattle.isa.specs.Ventus.{joinOf}
+use Rattle.isa.specs.Fields.{fieldsOf}
+use Rattle.isa.specs.Ventus.{joinWord}
 use Rattle.isa.specs.Kinds.{rowOf}
+use Rattle.isa.proofs.Tables.{fixed-four}
 use Rattle.decoder.proofs.join.Statement.{statement}
 use Rattle.decoder.proofs.join.Tie as tie
 
 pub join-spec : {M : Type 1} → statement M
-unfolding rowOf joinOf
+unfolding rowOf joinWord
 join-spec =
     tie.close
     (tie.spec
@@ -14,4 +17,4 @@ join-spec =
     (λ c. search needs)
     (λ c. search needs)
     (λ c κs. search needs)
-    (λ c. c .fixed .ensures (c .before .args .w)))
+    (λ c. let f = fieldsOf (c .before .args .w) in c .fixed .ensures (c .before .args .w) ∙ fixed-four (f .funct7) (f .rs2) (f .rs1) (f .rd) _))

@@ -1,4 +1,4 @@
--- `decoder::kind` meets its contract: the row of the commonest opcode, or another. Assumes nothing.
+-- The row of the commonest opcode, or another.
 use borrow.Author.Needs.{needs}
 use Rattle.isa.specs.Decode.{decodeOf}
 use Rattle.decoder.proofs.kind.Statement.{statement}

@@ -1,12 +1,12 @@
--- `decoder::left_shift` meets its contract: the fixed fields have their values, or there is no kind. Assumes nothing.
+-- The fixed fields have their values, or there is no kind.
 use borrow.Author.Needs.{needs}
-use Rattle.isa.specs.Scalar.{shiftOf}
+use Rattle.isa.specs.Scalar.{shiftWord}
 use Rattle.isa.specs.Kinds.{rowOf}
 use Rattle.decoder.proofs.left_shift.Statement.{statement}
 use Rattle.decoder.proofs.left_shift.Tie as tie
 
 pub left-shift-spec : {M : Type 1} → statement M
-unfolding rowOf shiftOf
+unfolding rowOf shiftWord
 left-shift-spec =
     tie.close
     (tie.spec

@@ -1,8 +1,8 @@
--- `decoder::load` meets its contract: each arm is a row, or rows that adjoin. Assumes nothing.
+-- Each arm is a row, or rows that adjoin.
 use mathlib.Core.List.{[]}
 use native.Mathlib.Omega.{arith}
 use Rattle.isa.specs.Fields.{fieldsOf}
-use Rattle.isa.specs.Scalar.{loads, loadAs, loadOf}
+use Rattle.isa.specs.Scalar.{loads, loadAs, loadWord}
 use Rattle.isa.specs.Kinds.{loadOpOf, rowOf}
 use Rattle.isa.proofs.Tables.{range-in, range-out}
 use Rattle.isa.specs.declared.LoadOp.the-variants as L
@@ -10,7 +10,7 @@ use Rattle.decoder.proofs.load.Statement.{statement}
 use Rattle.decoder.proofs.load.Tie as tie
 
 pub load-spec : {M : Type 1} → statement M
-unfolding rowOf loadOf loadOpOf
+unfolding rowOf loadWord loadOpOf
 load-spec =
     tie.close
     (tie.spec

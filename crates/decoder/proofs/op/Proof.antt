@@ -1,16 +1,16 @@
--- `decoder::op` meets its contract: funct3, then funct7: each row of the three tables. Assumes nothing.
+-- Funct3, then funct7: each row of the three tables.
 use mathlib.Core.Path.{_∙_}
 use mathlib.Core.List.{[], _∷_}
 use native.Mathlib.Omega.{arith}
 use borrow.Author.Needs.{needs}
 use Rattle.answer.proofs.Matches.{excluded}
-use Rattle.isa.specs.Scalar.{opOf, byFunct3}
+use Rattle.isa.specs.Scalar.{opWord, byFunct3}
 use Rattle.isa.specs.Kinds.{rowOf}
 use Rattle.decoder.proofs.op.Statement.{statement}
 use Rattle.decoder.proofs.op.Tie as tie
 
 pub op-spec : {M : Type 1} → statement M
-unfolding rowOf opOf byFunct3
+unfolding rowOf opWord byFunct3
 op-spec =
     tie.close
     (tie.spec

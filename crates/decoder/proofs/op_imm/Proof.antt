@@ -1,18 +1,18 @@
--- `decoder::op_imm` meets its contract: each arm is a row. Assumes nothing.
+-- Each arm is a row.
 use mathlib.Core.Path.{_∙_}
 use mathlib.Core.List.{[], _++_}
 use borrow.Author.Needs.{needs}
 use Rattle.isa.specs.declared.Instr.the-variants.{Refused}
 use Rattle.isa.specs.Fields.{fieldsOf}
-use Rattle.isa.specs.Table.{on, wordsOf}
-use Rattle.isa.specs.Scalar.{immediates, immediateAs, shifts, opImmOf}
+use Rattle.isa.specs.Table.{on, asWords}
+use Rattle.isa.specs.Scalar.{immediates, immediateAs, shifts, opImmWord}
 use Rattle.isa.specs.Kinds.{rowOf}
 use Rattle.isa.proofs.Laws.{past}
 use Rattle.decoder.proofs.op_imm.Statement.{statement}
 use Rattle.decoder.proofs.op_imm.Tie as tie
 
 pub op-imm-spec : {M : Type 1} → statement M
-unfolding rowOf opImmOf
+unfolding rowOf opImmWord
 op-imm-spec =
     tie.close
     (tie.spec
@@ -28,4 +28,4 @@ op-imm-spec =
     (λ c. c .right-shift .ensures ∙ simp (c .before .match .keys8))
     (λ c.
     let f = fieldsOf (c .before .args .w) in
-    past (on f) Refused _ (wordsOf immediateAs immediates ++ shifts) [] (c .match .rest)))
+    past (on f) Refused _ (asWords immediateAs immediates ++ shifts) [] (c .match .rest)))

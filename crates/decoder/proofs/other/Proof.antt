@@ -1,4 +1,4 @@
--- `decoder::other` meets its contract: each arm is a row of the table of opcodes, and the row that has no arm is not the word's. Assumes nothing.
+-- Each arm is a row of the table of opcodes, and the row that has no arm is not the word's.
 use mathlib.Core.List.{[]}
 use borrow.Author.Needs.{needs}
 use Rattle.isa.specs.declared.Instr.the-variants.{Refused}

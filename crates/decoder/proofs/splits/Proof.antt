@@ -1,11 +1,11 @@
--- `decoder::splits` meets its contract: each arm is a row, or rows that adjoin. Assumes nothing.
+-- Each arm is a row, or rows that adjoin.
 use mathlib.Core.Path.{_∙_}
 use mathlib.Core.List.{[], _∷_}
 use native.Mathlib.Omega.{arith}
 use borrow.Author.Needs.{needs}
 use Rattle.isa.specs.Fields.{fieldsOf}
 use Rattle.isa.specs.Scalar.{conditions}
-use Rattle.isa.specs.Ventus.{vbranchAs, joins, splitsOf}
+use Rattle.isa.specs.Ventus.{vbranchAs, joins, splitsWord}
 use Rattle.isa.specs.Kinds.{condOf, rowOf}
 use Rattle.isa.proofs.Tables.{range-in}
 use Rattle.word.specs.declared.Cond.the-variants as C
@@ -13,7 +13,7 @@ use Rattle.decoder.proofs.splits.Statement.{statement}
 use Rattle.decoder.proofs.splits.Tie as tie
 
 pub splits-spec : {M : Type 1} → statement M
-unfolding rowOf splitsOf condOf
+unfolding rowOf splitsWord condOf
 splits-spec =
     tie.close
     (tie.spec

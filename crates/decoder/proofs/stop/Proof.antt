@@ -1,4 +1,4 @@
--- `decoder::stop` meets its contract: each arm is a row. Assumes nothing.
+-- Each arm is a row.
 use mathlib.Core.Path.{_∙_}
 use mathlib.Core.List.{[]}
 use borrow.Author.Needs.{needs}
@@ -6,14 +6,14 @@ use borrow.Author.Tests.{eq-eqb, ne-eqb}
 use Rattle.isa.specs.declared.Instr.the-variants.{Refused}
 use Rattle.isa.specs.Fields.{fieldsOf}
 use Rattle.isa.specs.Table.{on}
-use Rattle.isa.specs.Ventus.{stops, stopOf}
+use Rattle.isa.specs.Ventus.{stops, stopWord}
 use Rattle.isa.specs.Kinds.{rowOf}
 use Rattle.isa.proofs.Laws.{past}
 use Rattle.decoder.proofs.stop.Statement.{statement}
 use Rattle.decoder.proofs.stop.Tie as tie
 
 pub stop-spec : {M : Type 1} → statement M
-unfolding rowOf stopOf
+unfolding rowOf stopWord
 stop-spec =
     tie.close
     (tie.spec

@@ -1,8 +1,8 @@
--- `decoder::store` meets its contract: each arm is a row, or rows that adjoin. Assumes nothing.
+-- Each arm is a row, or rows that adjoin.
 use mathlib.Core.List.{[]}
 use native.Mathlib.Omega.{arith}
 use Rattle.isa.specs.Fields.{fieldsOf}
-use Rattle.isa.specs.Scalar.{stores, storeAs, storeOf}
+use Rattle.isa.specs.Scalar.{stores, storeAs, storeWord}
 use Rattle.isa.specs.Kinds.{storeOpOf, rowOf}
 use Rattle.isa.proofs.Tables.{range-in, range-out}
 use Rattle.isa.specs.declared.StoreOp.the-variants as S
@@ -10,7 +10,7 @@ use Rattle.decoder.proofs.store.Statement.{statement}
 use Rattle.decoder.proofs.store.Tie as tie
 
 pub store-spec : {M : Type 1} → statement M
-unfolding rowOf storeOf storeOpOf
+unfolding rowOf storeWord storeOpOf
 store-spec =
     tie.close
     (tie.spec

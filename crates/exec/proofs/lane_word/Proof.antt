@@ -1,4 +1,6 @@
-use Rattle.exec.proofs.Laws.{lane-load-arm, lane-store-arm, ready-lanes, told}
+use Rattle.lane_handlers.proofs.Laws.{lane-load-arm, lane-store-arm}
+use Rattle.exec.proofs.Laws.{ready-lanes}
+use Rattle.handlers.proofs.Laws.{told}
 use Rattle.isa.proofs.Words.{barrier-is, endprg-is, join-is, pload-is, pstore-is, setrpc-is, vbranch-is, vid-is, vload-is, vmove-is, vmove-sx-is, vmove-xs-is, vstore-is}
 use Rattle.isa.specs.Fields.{fieldsOf}
 use Rattle.isa.specs.Kinds.{laneGroups, ofImmediates, ofRegisters}
@@ -6,7 +8,7 @@ use Rattle.isa.proofs.Laws.{past}
 use Rattle.isa.specs.Table.{on}
 use Rattle.isa.specs.declared.Instr.the-variants.{Refused}
 use Rattle.isa.specs.declared.Space.the-variants.{Plain, Private}
-use Rattle.running.proofs.Words.{lent-deep, lent-room}
+use Rattle.layout.proofs.Words.{lent-deep, lent-room}
 use borrow.Author.Needs.{needs}
 use mathlib.Core.List.{_++_}
 use mathlib.Core.Path.{_∙_, refl, sym}
@@ -18,52 +20,52 @@ lane-word-spec =
     tie.close
     (tie.spec
     (λ c. search needs)
-    (λ c κs. let a = (c .before .before .before .before .before .before .before .args) in let a = (c .before .before .before .before .before .before .before .args) in ((ready-lanes (a .g .now) (a .h .now) (a .x .now) (a .s .now) (a .v .now) (a .d .now) ((c .before .before .before .before .before .before .before .pre) .0)), (((c .before .before .before .before .before .before .before .pre) .0 .lent .room), lent-room (a .g .now) (a .h .now) (a .x .now) (a .s .now) ((c .before .before .before .before .before .before .before .pre) .0 .lent))))
-    (λ c κs. (c .before .before .before .before .before .before .pre) .0 .lent .long)
+    (λ c κs. let four = c .before .before .before .before in let a = (four .before .before .before .args) in ((ready-lanes (a .g .now) (a .h .now) (a .x .now) (a .s .now) (a .v .now) (a .d .now) ((four .before .before .before .pre) .0)), ((four .before .before .before .pre) .0 .lent .room), lent-room (a .g .now) (a .h .now) (a .x .now) (a .s .now) ((four .before .before .before .pre) .0 .lent)))
+    (λ c κs. let four = c .before .before .before .before in (four .before .before .pre) .0 .lent .long)
     (λ c κs. search needs)
-    (λ c κs. let a = (c .before .before .before .before .before .before .before .args) in let a = (c .before .before .before .before .before .before .before .args) in ((ready-lanes (a .g .now) (a .h .now) (a .x .now) (a .s .now) (a .v .now) (a .d .now) ((c .before .before .before .before .before .before .before .pre) .0)) .at, ((c .before .before .before .before .before .before .before .pre) .0 .data-ok, (c .before .before .imm-i) .ensures .1)))
-    (λ c κs. search needs)
-    (λ c κs. search needs)
-    (λ c κs. let a = (c .before .before .before .before .before .before .before .args) in let a = (c .before .before .before .before .before .before .before .args) in ((ready-lanes (a .g .now) (a .h .now) (a .x .now) (a .s .now) (a .v .now) (a .d .now) ((c .before .before .before .before .before .before .before .pre) .0)) .at, ((c .before .before .before .before .before .before .before .pre) .0 .data-ok, (c .before .before .imm-s) .ensures .1)))
+    (λ c κs. let four = c .before .before .before .before in let a = (four .before .before .before .args) in ((ready-lanes (a .g .now) (a .h .now) (a .x .now) (a .s .now) (a .v .now) (a .d .now) ((four .before .before .before .pre) .0)) .at, (four .before .before .before .pre) .0 .data-ok, (c .before .before .imm-i) .ensures .1))
     (λ c κs. search needs)
     (λ c κs. search needs)
-    (λ c κs. let a = (c .before .before .before .before .before .before .before .args) in let a = (c .before .before .before .before .before .before .before .args) in ((ready-lanes (a .g .now) (a .h .now) (a .x .now) (a .s .now) (a .v .now) (a .d .now) ((c .before .before .before .before .before .before .before .pre) .0)) .at, ((c .before .before .before .before .before .before .before .pre) .0 .data-ok, (c .before .before .private-load-offset) .ensures .1)))
+    (λ c κs. let four = c .before .before .before .before in let a = (four .before .before .before .args) in ((ready-lanes (a .g .now) (a .h .now) (a .x .now) (a .s .now) (a .v .now) (a .d .now) ((four .before .before .before .pre) .0)) .at, (four .before .before .before .pre) .0 .data-ok, (c .before .before .imm-s) .ensures .1))
     (λ c κs. search needs)
     (λ c κs. search needs)
-    (λ c κs. let a = (c .before .before .before .before .before .before .before .args) in let a = (c .before .before .before .before .before .before .before .args) in ((ready-lanes (a .g .now) (a .h .now) (a .x .now) (a .s .now) (a .v .now) (a .d .now) ((c .before .before .before .before .before .before .before .pre) .0)) .at, ((c .before .before .before .before .before .before .before .pre) .0 .data-ok, (c .before .before .private-store-offset) .ensures .1)))
+    (λ c κs. let four = c .before .before .before .before in let a = (four .before .before .before .args) in ((ready-lanes (a .g .now) (a .h .now) (a .x .now) (a .s .now) (a .v .now) (a .d .now) ((four .before .before .before .pre) .0)) .at, (four .before .before .before .pre) .0 .data-ok, (c .before .before .private-load-offset) .ensures .1))
     (λ c κs. search needs)
-    (λ c κs. let a = (c .before .before .before .before .before .before .args) in let a = (c .before .before .before .before .before .before .args) in (((c .before .before .before .before .before .before .pre) .0 .lent .long), (((c .before .before .before .before .before .before .pre) .0 .lent .room), lent-deep (a .g .now) (a .h .now) (a .x .now) (a .s .now) ((c .before .before .before .before .before .before .pre) .0 .lent))))
-    (λ c κs. (c .before .before .before .before .before .pre) .0 .lent .long)
-    (λ c κs. (c .before .before .before .before .before .pre) .0 .lent .long)
-    (λ c κs. let a = (c .before .before .before .before .before .before .before .args) in let a = (c .before .before .before .before .before .before .before .args) in (ready-lanes (a .g .now) (a .h .now) (a .x .now) (a .s .now) (a .v .now) (a .d .now) ((c .before .before .before .before .before .before .before .pre) .0)))
-    (λ c κs. let a = (c .before .before .before .before .before .before .before .args) in let a = (c .before .before .before .before .before .before .before .args) in (ready-lanes (a .g .now) (a .h .now) (a .x .now) (a .s .now) (a .v .now) (a .d .now) ((c .before .before .before .before .before .before .before .pre) .0)))
-    (λ c κs. let a = (c .before .before .before .before .before .before .args) in let a = (c .before .before .before .before .before .before .args) in (ready-lanes (a .g .now) (a .h .now) (a .x .now) (a .s .now) (a .v .now) (a .d .now) ((c .before .before .before .before .before .before .pre) .0)))
-    (λ c κs. let a = (c .before .before .before .before .before .before .before .args) in let a = (c .before .before .before .before .before .before .before .args) in (ready-lanes (a .g .now) (a .h .now) (a .x .now) (a .s .now) (a .v .now) (a .d .now) ((c .before .before .before .before .before .before .before .pre) .0)))
-    (λ c κs. let a = (c .before .before .before .before .before .before .args) in let f = fieldsOf (a .w) in ((c .before .before .before .before .before .before .pre) .0 .lent .long, (c .before .before .before .before .before .before .pre) .1 ∙ sym (past (on f) Refused _ laneGroups (ofRegisters ++ ofImmediates) ((c .before .before .match) .rest))))
+    (λ c κs. search needs)
+    (λ c κs. let four = c .before .before .before .before in let a = (four .before .before .before .args) in ((ready-lanes (a .g .now) (a .h .now) (a .x .now) (a .s .now) (a .v .now) (a .d .now) ((four .before .before .before .pre) .0)) .at, (four .before .before .before .pre) .0 .data-ok, (c .before .before .private-store-offset) .ensures .1))
+    (λ c κs. search needs)
+    (λ c κs. let four = c .before .before .before .before in let a = (four .before .before .args) in (((four .before .before .pre) .0 .lent .long), ((four .before .before .pre) .0 .lent .room), lent-deep (a .g .now) (a .h .now) (a .x .now) (a .s .now) ((four .before .before .pre) .0 .lent)))
+    (λ c κs. let four = c .before .before .before .before in (four .before .pre) .0 .lent .long)
+    (λ c κs. let four = c .before .before .before .before in (four .before .pre) .0 .lent .long)
+    (λ c κs. let four = c .before .before .before .before in let a = (four .before .before .before .args) in (ready-lanes (a .g .now) (a .h .now) (a .x .now) (a .s .now) (a .v .now) (a .d .now) ((four .before .before .before .pre) .0)))
+    (λ c κs. let four = c .before .before .before .before in let a = (four .before .before .before .args) in (ready-lanes (a .g .now) (a .h .now) (a .x .now) (a .s .now) (a .v .now) (a .d .now) ((four .before .before .before .pre) .0)))
+    (λ c κs. let four = c .before .before .before .before in let a = (four .before .before .args) in (ready-lanes (a .g .now) (a .h .now) (a .x .now) (a .s .now) (a .v .now) (a .d .now) ((four .before .before .pre) .0)))
+    (λ c κs. let four = c .before .before .before .before in let a = (four .before .before .before .args) in (ready-lanes (a .g .now) (a .h .now) (a .x .now) (a .s .now) (a .v .now) (a .d .now) ((four .before .before .before .pre) .0)))
+    (λ c κs. let four = c .before .before .before .before in let a = (four .before .before .args) in let f = fieldsOf (a .w) in ((four .before .before .pre) .0 .lent .long, (four .before .before .pre) .1 ∙ sym (past (on f) Refused _ laneGroups (ofRegisters ++ ofImmediates) ((c .before .before .match) .rest))))
     (λ c. search needs)
-    (λ c. let a = (c .before .before .before .before .before .before .before .before .args) in told (vbranch-is (a .kind) (a .w) ((c .before .before .before .before .match) .keys1) refl refl refl refl) ((c .vbranch) .ensures (a .x .now) (a .d .now)))
-    (λ c. let a = (c .before .before .before .before .before .before .before .args) in told (setrpc-is (a .kind) (a .w) ((c .before .before .before .match) .keys2) refl refl refl) ((c .setrpc) .ensures (a .g .now) (a .s .now) (a .v .now) (a .d .now) ((c .before .before .before .before .before .before .before .pre) .0 .lent .room)))
-    (λ c. search needs)
-    (λ c. search needs)
-    (λ c. let a = (c .before .before .before .before .before .before .before .before .before .before .before .before .args) in told (vload-is (a .kind) (a .w) ((c .before .before .before .before .before .before .before .before .match) .keys3) refl refl refl ((c .before .before .before .before .before .before .before .imm-i) .ensures .0)) (lane-load-arm _ Plain _ (a .w) _ (a .g .now) (a .h .now) (a .x .now) (a .s .now) (a .v .now) (a .d .now) _ ((c .before .before .before .before .before .before .before .before .before .before .before .before .pre) .0 .lent .long) ((c .before .before .before .before .before .before .before .before .before .before .before .before .pre) .0 .lent .room) ((c .on-if) .ensures) _ ((c .before .before .before .before .vload) .ensures)))
-    (λ c. search needs)
-    (λ c. search needs)
-    (λ c. let a = (c .before .before .before .before .before .before .before .before .before .before .before .before .args) in told (vstore-is (a .kind) (a .w) ((c .before .before .before .before .before .before .before .before .match) .keys4) refl refl refl ((c .before .before .before .before .before .before .before .imm-s) .ensures .0)) (lane-store-arm _ Plain _ (a .w) _ (a .g .now) (a .h .now) (a .x .now) (a .s .now) (a .v .now) (a .d .now) _ ((c .before .before .before .before .before .before .before .before .before .before .before .before .pre) .0 .lent .long) ((c .before .before .before .before .before .before .before .before .before .before .before .before .pre) .0 .lent .room) ((c .on-if2) .ensures) _ ((c .before .before .before .before .vstore) .ensures)))
+    (λ c. let four = c .before .before .before .before in let a = (four .before .before .before .before .args) in told (vbranch-is (a .kind) (a .w) ((c .before .before .before .before .match) .keys1) refl refl refl refl) ((c .vbranch) .ensures (a .x .now) (a .d .now)))
+    (λ c. let four = c .before .before .before .before in let a = (four .before .before .before .args) in told (setrpc-is (a .kind) (a .w) ((c .before .before .before .match) .keys2) refl refl refl) ((c .setrpc) .ensures (a .g .now) (a .s .now) (a .v .now) (a .d .now) ((four .before .before .before .pre) .0 .lent .room)))
     (λ c. search needs)
     (λ c. search needs)
-    (λ c. let a = (c .before .before .before .before .before .before .before .before .before .before .before .before .args) in told (pload-is (a .kind) (a .w) ((c .before .before .before .before .before .before .before .before .match) .keys5) refl refl refl ((c .before .before .before .before .before .before .before .private-load-offset) .ensures .0)) (lane-load-arm _ Private _ (a .w) _ (a .g .now) (a .h .now) (a .x .now) (a .s .now) (a .v .now) (a .d .now) _ ((c .before .before .before .before .before .before .before .before .before .before .before .before .pre) .0 .lent .long) ((c .before .before .before .before .before .before .before .before .before .before .before .before .pre) .0 .lent .room) ((c .on-if3) .ensures) _ ((c .before .before .before .before .vload2) .ensures)))
+    (λ c. let four = c .before .before .before .before in let eight = four .before .before .before .before in let a = (eight .before .before .before .before .args) in told (vload-is (a .kind) (a .w) ((four .before .before .before .before .match) .keys3) refl refl refl ((four .before .before .before .imm-i) .ensures .0)) (lane-load-arm _ Plain _ (a .w) _ (a .g .now) (a .h .now) (a .x .now) (a .s .now) (a .v .now) (a .d .now) _ ((eight .before .before .before .before .pre) .0 .lent .long) ((eight .before .before .before .before .pre) .0 .lent .room) ((c .on-if) .ensures) _ ((c .before .before .before .before .vload) .ensures)))
     (λ c. search needs)
     (λ c. search needs)
-    (λ c. let a = (c .before .before .before .before .before .before .before .before .before .before .before .before .args) in told (pstore-is (a .kind) (a .w) ((c .before .before .before .before .before .before .before .before .match) .keys6) refl refl refl ((c .before .before .before .before .before .before .before .private-store-offset) .ensures .0)) (lane-store-arm _ Private _ (a .w) _ (a .g .now) (a .h .now) (a .x .now) (a .s .now) (a .v .now) (a .d .now) _ ((c .before .before .before .before .before .before .before .before .before .before .before .before .pre) .0 .lent .long) ((c .before .before .before .before .before .before .before .before .before .before .before .before .pre) .0 .lent .room) ((c .on-if4) .ensures) _ ((c .before .before .before .before .vstore2) .ensures)))
-    (λ c. let a = (c .before .before .before .before .before .before .before .args) in told (join-is (a .kind) (a .w) ((c .before .before .before .match) .keys7)) ((c .join) .ensures (a .g .now) (a .x .now) (a .v .now) (a .d .now)))
-    (λ c. let a = (c .before .before .before .before .before .before .args) in told (endprg-is (a .kind) (a .w) ((c .before .before .match) .keys8)) ((c .end) .ensures (a .g .now) (a .x .now) (a .s .now) (a .v .now) (a .d .now) ((c .before .before .before .before .before .before .pre) .0 .lent .room)))
-    (λ c. let a = (c .before .before .before .before .before .before .args) in told (barrier-is (a .kind) (a .w) ((c .before .before .match) .keys9) refl) ((c .barrier) .ensures (a .g .now) (a .x .now) (a .s .now) (a .v .now) (a .d .now) ((c .before .before .before .before .before .before .pre) .0 .lent .room)))
+    (λ c. let four = c .before .before .before .before in let eight = four .before .before .before .before in let a = (eight .before .before .before .before .args) in told (vstore-is (a .kind) (a .w) ((four .before .before .before .before .match) .keys4) refl refl refl ((four .before .before .before .imm-s) .ensures .0)) (lane-store-arm _ Plain _ (a .w) _ (a .g .now) (a .h .now) (a .x .now) (a .s .now) (a .v .now) (a .d .now) _ ((eight .before .before .before .before .pre) .0 .lent .long) ((eight .before .before .before .before .pre) .0 .lent .room) ((c .on-if2) .ensures) _ ((c .before .before .before .before .vstore) .ensures)))
     (λ c. search needs)
-    (λ c. let a = (c .before .before .before .before .before .before .before .before .args) in told (vmove-xs-is (a .kind) (a .w) ((c .before .before .before .before .match) .keys10) refl refl) ((c .vmove-xs) .ensures (a .s .now) (a .d .now) ((c .before .before .before .before .before .before .before .before .pre) .0 .lent .room)))
     (λ c. search needs)
-    (λ c. let a = (c .before .before .before .before .before .before .before .before .before .before .args) in told (vmove-sx-is (a .kind) (a .w) ((c .before .before .before .before .before .before .match) .keys11) refl refl) ((c .before .before .vmove-sx) .ensures (a .s .now) (a .d .now) ((c .before .before .before .before .before .before .before .before .before .before .pre) .0 .lent .room)))
+    (λ c. let four = c .before .before .before .before in let eight = four .before .before .before .before in let a = (eight .before .before .before .before .args) in told (pload-is (a .kind) (a .w) ((four .before .before .before .before .match) .keys5) refl refl refl ((four .before .before .before .private-load-offset) .ensures .0)) (lane-load-arm _ Private _ (a .w) _ (a .g .now) (a .h .now) (a .x .now) (a .s .now) (a .v .now) (a .d .now) _ ((eight .before .before .before .before .pre) .0 .lent .long) ((eight .before .before .before .before .pre) .0 .lent .room) ((c .on-if3) .ensures) _ ((c .before .before .before .before .vload2) .ensures)))
     (λ c. search needs)
-    (λ c. let a = (c .before .before .before .before .before .before .before .before .before .args) in told (vid-is (a .kind) (a .w) ((c .before .before .before .before .before .match) .keys12) refl) ((c .before .before .vid) .ensures (a .x .now) (a .s .now) (a .d .now) ((c .before .before .before .before .before .before .before .before .before .pre) .0 .lent .room)))
     (λ c. search needs)
-    (λ c. let a = (c .before .before .before .before .before .before .before .before .before .before .args) in told (vmove-is (a .kind) (a .w) ((c .before .before .before .before .before .before .match) .keys13) refl refl) ((c .before .before .vmove) .ensures (a .s .now) (a .d .now) ((c .before .before .before .before .before .before .before .before .before .before .pre) .0 .lent .room)))
-    (λ c. let a = (c .before .before .before .before .before .before .before .args) in (c .op-reg) .ensures (a .g .now) (a .s .now) (a .v .now) (a .d .now) ((c .before .before .before .before .before .before .before .pre) .0 .lent .room)))
+    (λ c. let four = c .before .before .before .before in let eight = four .before .before .before .before in let a = (eight .before .before .before .before .args) in told (pstore-is (a .kind) (a .w) ((four .before .before .before .before .match) .keys6) refl refl refl ((four .before .before .before .private-store-offset) .ensures .0)) (lane-store-arm _ Private _ (a .w) _ (a .g .now) (a .h .now) (a .x .now) (a .s .now) (a .v .now) (a .d .now) _ ((eight .before .before .before .before .pre) .0 .lent .long) ((eight .before .before .before .before .pre) .0 .lent .room) ((c .on-if4) .ensures) _ ((c .before .before .before .before .vstore2) .ensures)))
+    (λ c. let four = c .before .before .before .before in let a = (four .before .before .before .args) in told (join-is (a .kind) (a .w) ((c .before .before .before .match) .keys7)) ((c .join) .ensures (a .g .now) (a .x .now) (a .v .now) (a .d .now)))
+    (λ c. let four = c .before .before .before .before in let a = (four .before .before .args) in told (endprg-is (a .kind) (a .w) ((c .before .before .match) .keys8)) ((c .end) .ensures (a .g .now) (a .x .now) (a .s .now) (a .v .now) (a .d .now) ((four .before .before .pre) .0 .lent .room)))
+    (λ c. let four = c .before .before .before .before in let a = (four .before .before .args) in told (barrier-is (a .kind) (a .w) ((c .before .before .match) .keys9) refl) ((c .barrier) .ensures (a .g .now) (a .x .now) (a .s .now) (a .v .now) (a .d .now) ((four .before .before .pre) .0 .lent .room)))
+    (λ c. search needs)
+    (λ c. let four = c .before .before .before .before in let a = (four .before .before .before .before .args) in told (vmove-xs-is (a .kind) (a .w) ((c .before .before .before .before .match) .keys10) refl refl) ((c .vmove-xs) .ensures (a .s .now) (a .d .now) ((four .before .before .before .before .pre) .0 .lent .room)))
+    (λ c. search needs)
+    (λ c. let four = c .before .before .before .before in let eight = four .before .before .before .before in let a = (eight .before .before .args) in told (vmove-sx-is (a .kind) (a .w) ((four .before .before .match) .keys11) refl refl) ((c .before .before .vmove-sx) .ensures (a .s .now) (a .d .now) ((eight .before .before .pre) .0 .lent .room)))
+    (λ c. search needs)
+    (λ c. let four = c .before .before .before .before in let eight = four .before .before .before .before in let a = (eight .before .args) in told (vid-is (a .kind) (a .w) ((four .before .match) .keys12) refl) ((c .before .before .vid) .ensures (a .x .now) (a .s .now) (a .d .now) ((eight .before .pre) .0 .lent .room)))
+    (λ c. search needs)
+    (λ c. let four = c .before .before .before .before in let eight = four .before .before .before .before in let a = (eight .before .before .args) in told (vmove-is (a .kind) (a .w) ((four .before .before .match) .keys13) refl refl) ((c .before .before .vmove) .ensures (a .s .now) (a .d .now) ((eight .before .before .pre) .0 .lent .room)))
+    (λ c. let four = c .before .before .before .before in let a = (four .before .before .before .args) in (c .op-reg) .ensures (a .g .now) (a .s .now) (a .v .now) (a .d .now) ((four .before .before .before .pre) .0 .lent .room)))

@@ -1,6 +1,7 @@
 use Rattle.definition.specs.Refuse.{refusalsOf}
-use Rattle.exec.proofs.Laws.{imm-arm, refused, told}
-use Rattle.exec.specs.Steps.{lists}
+use Rattle.exec.proofs.Laws.{imm-arm}
+use Rattle.handlers.proofs.Laws.{refused, told}
+use Rattle.handlers.specs.Handles.{lists}
 use Rattle.isa.specs.Fields.{fieldsOf, immI}
 use Rattle.isa.specs.Kinds.{ofImmediates, rowOf}
 use Rattle.isa.proofs.Laws.{past}
@@ -54,13 +55,13 @@ op-imm-spec =
     (λ c κs. search needs)
     (λ c κs. search needs)
     (λ c κs. search needs)
-    (λ c. let a = (c .before .before .before .before .before .before .before .before .args) in let f = fieldsOf (a .w) in imm-arm (a .kind) (a .w) O.Add (immI f) _ _ (a .h .now) (a .x .now) _ _ (rw ((c .before .before .before .before .before .before .before .match) .keys1)) ((c .before .before .before .add) .ensures ∙ ap₂ (applyOf O.Add) ((c .before .before .before .before .before .first) .ensures) ((c .before .before .before .before .immediate) .ensures)) ((c .gives) .ensures))
-    (λ c. let a = (c .before .before .before .before .before .before .before .before .args) in let f = fieldsOf (a .w) in imm-arm (a .kind) (a .w) O.Sll (f .rs2) _ _ (a .h .now) (a .x .now) _ _ (rw ((c .before .before .before .before .before .before .before .match) .keys2)) ((c .before .before .before .sll) .ensures ∙ ap₂ (applyOf O.Sll) ((c .before .before .before .before .before .first2) .ensures) ((c .before .before .before .before .amount) .ensures)) ((c .gives2) .ensures))
-    (λ c. let a = (c .before .before .before .before .before .before .before .before .args) in let f = fieldsOf (a .w) in imm-arm (a .kind) (a .w) O.Srl (f .rs2) _ _ (a .h .now) (a .x .now) _ _ (rw ((c .before .before .before .before .before .before .before .match) .keys3)) ((c .before .before .before .srl) .ensures ∙ ap₂ (applyOf O.Srl) ((c .before .before .before .before .before .first3) .ensures) ((c .before .before .before .before .amount2) .ensures)) ((c .gives3) .ensures))
-    (λ c. let a = (c .before .before .before .before .before .before .before .before .args) in let f = fieldsOf (a .w) in imm-arm (a .kind) (a .w) O.Sra (f .rs2) _ _ (a .h .now) (a .x .now) _ _ (rw ((c .before .before .before .before .before .before .before .match) .keys4)) ((c .before .before .before .sra) .ensures ∙ ap₂ (applyOf O.Sra) ((c .before .before .before .before .before .first4) .ensures) ((c .before .before .before .before .amount3) .ensures)) ((c .gives4) .ensures))
-    (λ c. let a = (c .before .before .before .before .before .before .before .before .args) in let f = fieldsOf (a .w) in imm-arm (a .kind) (a .w) O.Slt (immI f) _ _ (a .h .now) (a .x .now) _ _ (rw ((c .before .before .before .before .before .before .before .match) .keys5)) ((c .before .before .before .slt) .ensures ∙ ap₂ (applyOf O.Slt) ((c .before .before .before .before .before .first5) .ensures) ((c .before .before .before .before .immediate2) .ensures)) ((c .gives5) .ensures))
-    (λ c. let a = (c .before .before .before .before .before .before .before .before .args) in let f = fieldsOf (a .w) in imm-arm (a .kind) (a .w) O.Sltu (immI f) _ _ (a .h .now) (a .x .now) _ _ (rw ((c .before .before .before .before .before .before .before .match) .keys6)) ((c .before .before .before .sltu) .ensures ∙ ap₂ (applyOf O.Sltu) ((c .before .before .before .before .before .first6) .ensures) ((c .before .before .before .before .immediate3) .ensures)) ((c .gives6) .ensures))
-    (λ c. let a = (c .before .before .before .before .before .before .before .args) in let f = fieldsOf (a .w) in imm-arm (a .kind) (a .w) O.And (immI f) _ _ (a .h .now) (a .x .now) _ _ (rw ((c .before .before .before .before .before .before .match) .keys7)) (ap₂ (applyOf O.And) ((c .before .before .before .before .first7) .ensures) ((c .before .before .before .immediate4) .ensures)) ((c .gives7) .ensures))
-    (λ c. let a = (c .before .before .before .before .before .before .before .args) in let f = fieldsOf (a .w) in imm-arm (a .kind) (a .w) O.Or (immI f) _ _ (a .h .now) (a .x .now) _ _ (rw ((c .before .before .before .before .before .before .match) .keys8)) (ap₂ (applyOf O.Or) ((c .before .before .before .before .first8) .ensures) ((c .before .before .before .immediate5) .ensures)) ((c .gives8) .ensures))
-    (λ c. let a = (c .before .before .before .before .before .before .before .args) in let f = fieldsOf (a .w) in imm-arm (a .kind) (a .w) O.Xor (immI f) _ _ (a .h .now) (a .x .now) _ _ (rw ((c .before .before .before .before .before .before .match) .keys9)) (ap₂ (applyOf O.Xor) ((c .before .before .before .before .first9) .ensures) ((c .before .before .before .immediate6) .ensures)) ((c .gives9) .ensures))
+    (λ c. let four = c .before .before .before .before in let a = (four .before .before .before .before .args) in let f = fieldsOf (a .w) in imm-arm (a .kind) (a .w) O.Add (immI f) _ _ (a .h .now) (a .x .now) _ _ (rw ((four .before .before .before .match) .keys1)) ((c .before .before .before .add) .ensures ∙ ap₂ (applyOf O.Add) ((four .before .first) .ensures) ((c .before .before .before .before .immediate) .ensures)) ((c .gives) .ensures))
+    (λ c. let four = c .before .before .before .before in let a = (four .before .before .before .before .args) in let f = fieldsOf (a .w) in imm-arm (a .kind) (a .w) O.Sll (f .rs2) _ _ (a .h .now) (a .x .now) _ _ (rw ((four .before .before .before .match) .keys2)) ((c .before .before .before .sll) .ensures ∙ ap₂ (applyOf O.Sll) ((four .before .first2) .ensures) ((c .before .before .before .before .amount) .ensures)) ((c .gives2) .ensures))
+    (λ c. let four = c .before .before .before .before in let a = (four .before .before .before .before .args) in let f = fieldsOf (a .w) in imm-arm (a .kind) (a .w) O.Srl (f .rs2) _ _ (a .h .now) (a .x .now) _ _ (rw ((four .before .before .before .match) .keys3)) ((c .before .before .before .srl) .ensures ∙ ap₂ (applyOf O.Srl) ((four .before .first3) .ensures) ((c .before .before .before .before .amount2) .ensures)) ((c .gives3) .ensures))
+    (λ c. let four = c .before .before .before .before in let a = (four .before .before .before .before .args) in let f = fieldsOf (a .w) in imm-arm (a .kind) (a .w) O.Sra (f .rs2) _ _ (a .h .now) (a .x .now) _ _ (rw ((four .before .before .before .match) .keys4)) ((c .before .before .before .sra) .ensures ∙ ap₂ (applyOf O.Sra) ((four .before .first4) .ensures) ((c .before .before .before .before .amount3) .ensures)) ((c .gives4) .ensures))
+    (λ c. let four = c .before .before .before .before in let a = (four .before .before .before .before .args) in let f = fieldsOf (a .w) in imm-arm (a .kind) (a .w) O.Slt (immI f) _ _ (a .h .now) (a .x .now) _ _ (rw ((four .before .before .before .match) .keys5)) ((c .before .before .before .slt) .ensures ∙ ap₂ (applyOf O.Slt) ((four .before .first5) .ensures) ((c .before .before .before .before .immediate2) .ensures)) ((c .gives5) .ensures))
+    (λ c. let four = c .before .before .before .before in let a = (four .before .before .before .before .args) in let f = fieldsOf (a .w) in imm-arm (a .kind) (a .w) O.Sltu (immI f) _ _ (a .h .now) (a .x .now) _ _ (rw ((four .before .before .before .match) .keys6)) ((c .before .before .before .sltu) .ensures ∙ ap₂ (applyOf O.Sltu) ((four .before .first6) .ensures) ((c .before .before .before .before .immediate3) .ensures)) ((c .gives6) .ensures))
+    (λ c. let four = c .before .before .before .before in let a = (four .before .before .before .args) in let f = fieldsOf (a .w) in imm-arm (a .kind) (a .w) O.And (immI f) _ _ (a .h .now) (a .x .now) _ _ (rw ((four .before .before .match) .keys7)) (ap₂ (applyOf O.And) ((c .before .before .before .before .first7) .ensures) ((c .before .before .before .immediate4) .ensures)) ((c .gives7) .ensures))
+    (λ c. let four = c .before .before .before .before in let a = (four .before .before .before .args) in let f = fieldsOf (a .w) in imm-arm (a .kind) (a .w) O.Or (immI f) _ _ (a .h .now) (a .x .now) _ _ (rw ((four .before .before .match) .keys8)) (ap₂ (applyOf O.Or) ((c .before .before .before .before .first8) .ensures) ((c .before .before .before .immediate5) .ensures)) ((c .gives8) .ensures))
+    (λ c. let four = c .before .before .before .before in let a = (four .before .before .before .args) in let f = fieldsOf (a .w) in imm-arm (a .kind) (a .w) O.Xor (immI f) _ _ (a .h .now) (a .x .now) _ _ (rw ((four .before .before .match) .keys9)) (ap₂ (applyOf O.Xor) ((c .before .before .before .before .first9) .ensures) ((c .before .before .before .immediate6) .ensures)) ((c .gives9) .ensures))
     (λ c. let a = (c .before .args) in let f = fieldsOf (a .w) in λ g s v d n. told ((c .before .pre) .1 ∙ sym (past (on f) Refused _ ofImmediates [] ((c .match) .rest))) (refused I.Refused 6 (lists g (a .h .now) (a .x .now) s v d) (λ z. omega arith) ((c .before .pre) .0) n refl)))

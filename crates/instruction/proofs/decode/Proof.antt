@@ -1,4 +1,4 @@
--- `instruction::decode` meets its contract: the kind is the word's, and the instruction the kind's. Assumes nothing.
+-- The kind is the word's, and the instruction the kind's.
 use mathlib.Core.Path.{_∙_}
 use borrow.Author.Needs.{needs}
 use Rattle.instruction.proofs.decode.Statement.{statement}

@@ -1,4 +1,4 @@
--- `instruction::register_word` meets its contract: each arm is a row. Assumes nothing.
+-- Each arm is a row.
 use mathlib.Core.Path.{_∙_}
 use borrow.Author.Needs.{needs}
 use Rattle.isa.specs.declared.Instr.the-variants.{Refused}

@@ -1,4 +1,4 @@
--- `instruction::vector` meets its contract: the fields that it reads. Assumes nothing.
+-- The fields that it reads.
 use borrow.Author.Needs.{needs}
 use Rattle.instruction.proofs.vector.Statement.{statement}
 use Rattle.instruction.proofs.vector.Tie as tie

@@ -20,7 +20,7 @@ returns c =
     let m = s .args .mask in
     let on = holdsLane (s .args .c) (x .row .result) (y .row2 .result) in
     ap (λ (o : ℕ). bitAnd o m) (c .hold-op .ensures)
-    ∙ and-bits on (s .args .n) m (s .pre .1 .1 .1 .1)
+    ∙ and-bits on (s .args .n) m (s .pre .4)
     ∙ mask-same (λ l. bit m l && on l) (wantsOf (s .args .v .now) m (s .args .c) (s .args .a) (s .args .b)) (s .args .n)
     (λ l h. ap₂ (λ (p q : ℕ). bit m l && holdsOf (s .args .c) p q) (x .row .ensures .1 l (omega arith)) (y .row2 .ensures .1 l (omega arith)))
 

@@ -5,12 +5,12 @@ use native.Mathlib.Omega.{arith}
 use borrow.Author.Needs.{needs}
 use Rattle.lanes.specs.Mask.{bit}
 use Rattle.lanes.specs.Rows.{mapLane}
-use Rattle.lanes.proofs.RowLaws.{Written, written-none, written-on, written-off, written-all}
+use Rattle.lanes.proofs.RowLaws.{RowWritten, written-none, written-on, written-off, written-all}
 use Rattle.lanes.proofs.map_on.Statement.{statement}
 use Rattle.lanes.proofs.map_on.Tie as tie
 
 abbrev Inv-loop : tie.InvT-loop
-Inv-loop op v₀ mask d n x y l₀ v l = (l ≤ n) × Written (bit mask) d (mapLane op x y) v₀ l v
+Inv-loop op v₀ mask d n x y l₀ v l = (l ≤ n) × RowWritten (bit mask) d (mapLane op x y) v₀ l v
 
 abbrev μ-loop : tie.MeasureT-loop
 μ-loop op v₀ mask d n x y l₀ v l = n - l
@@ -28,9 +28,9 @@ loop-again c =
     let l = k .loop .l in (
       omega arith,
       ⊎-elim
-          (λ w. subst (Written on (s .d) f (s .v .now) (l + 1)) (sym (w .5))
+          (λ w. subst (RowWritten on (s .d) f (s .v .now) (l + 1)) (sym (w .5))
           (written-on on (s .d) f (s .v .now) l (k .loop .v) (w .1 .result) (w .4 .result) (sym (a .active .ensures) ∙ w .0 .taken) (w .1 .ensures) (w .4 .ensures) (k .loop .inv .1)))
-          (λ w. subst (Written on (s .d) f (s .v .now) (l + 1)) (sym (w .1)) (written-off on (s .d) f (s .v .now) l (k .loop .v) (sym (a .active .ensures) ∙ w .0 .left) (k .loop .inv .1)))
+          (λ w. subst (RowWritten on (s .d) f (s .v .now) (l + 1)) (sym (w .1)) (written-off on (s .d) f (s .v .now) l (k .loop .v) (sym (a .active .ensures) ∙ w .0 .left) (k .loop .inv .1)))
           (c .if1 .came),
     )
 

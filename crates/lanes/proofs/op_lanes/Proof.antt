@@ -18,7 +18,7 @@ returns c =
     let s = x .before .before .before in
     let n = s .args .n in
     m .map-op .ensures
-    ∙ each-numt (s .args .mask) n _ (s .args .v .now) (s .pre .1 .1 .1 .1 .1) (s .pre .1 .1 .1 .1 .0)
+    ∙ each-numt (s .args .mask) n _ (s .args .v .now) (s .pre .5) (s .pre .4)
     ∙ write-same (bit (s .args .mask)) (s .args .d) (mapLane (s .args .op) (x .row .result) (y .operand-row .result)) (opLane (s .args .op) (s .args .v .now) (s .args .a) (s .args .b)) (s .args .v .now) n
     (λ l h t. ap₂ (applyOf (s .args .op)) (x .row .ensures .1 l (omega arith)) (y .operand-row .ensures .1 l (omega arith)))
 

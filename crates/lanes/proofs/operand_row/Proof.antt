@@ -1,6 +1,6 @@
 use mathlib.Core.Path.{subst}
 use borrow.Author.Needs.{needs}
-use Rattle.lanes.specs.Lanes.{OperandOk}
+use Rattle.lanes.specs.Rows.{OperandOk}
 use Rattle.lanes.proofs.RowLaws.{row-of}
 use Rattle.lanes.proofs.operand_row.Statement.{statement}
 use Rattle.lanes.proofs.operand_row.Tie as tie

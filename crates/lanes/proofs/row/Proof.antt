@@ -4,13 +4,13 @@ use native.Mathlib.Omega.{arith}
 use lib.ListN.{getD, replicate}
 use borrow.Author.Needs.{needs}
 use Rattle.lanes.specs.Lanes.{lanesMax, laneOf}
-use Rattle.lanes.specs.Rows.{Row}
+use Rattle.lanes.specs.Rows.{RowOf}
 use Rattle.lanes.proofs.RowLaws.{row-none, row-more}
 use Rattle.lanes.proofs.row.Statement.{statement}
 use Rattle.lanes.proofs.row.Tie as tie
 
 abbrev Inv-loop : tie.InvT-loop
-Inv-loop v r a₀ l₀ a l = (l ≤ lanesMax) × Row l (laneOf v r) a
+Inv-loop v r a₀ l₀ a l = (l ≤ lanesMax) × RowOf l (laneOf v r) a
 
 abbrev μ-loop : tie.MeasureT-loop
 μ-loop v r a₀ l₀ a l = lanesMax - l

@@ -1,8 +1,9 @@
-use Prim.Native.Nat.{ℕ, _<_}
+use Prim.Native.Nat.{_<_}
 use mathlib.Core.Path.{_≡_}
 use native.Mathlib.Omega.{arith}
 use lib.ListN.{replicate}
 use borrow.Author.Needs.{needs}
+use Rattle.lanes.specs.declared.Lane.{Lane}
 use Rattle.lanes.specs.Lanes.{lanesMax, laneOf}
 use Rattle.lanes.specs.Rows.{at}
 use Rattle.lanes.proofs.RowLaws.{row-of, uniform-value, uniform-rows}
@@ -17,10 +18,10 @@ returns c =
     let n = s .args .n in
     let f = laneOf (s .args .v .now) (s .args .a) in
     let one = w .value .result in
-    let rx : (l : ℕ) → l < n → at (x .row .result) l ≡ f l = λ l h. x .row .ensures .1 l (omega arith) in
-    let ry : (l : ℕ) → l < n → at (replicate lanesMax one) l ≡ one = λ l h. row-of one .1 l (omega arith) in (
-      uniform-rows (s .args .mask) n (s .pre .1 .1 .1) f (x .row .result) (replicate lanesMax one) one rx ry (w .value .ensures) (c .hold .result) (c .hold .ensures),
-      uniform-value (s .args .mask) n (s .pre .1 .1 .1) f (x .row .result) (replicate lanesMax one) one rx ry (w .value .ensures),
+    let rx : (l : Lane) → l .0 < n → at (x .row .result) l ≡ f l = λ l h. x .row .ensures .1 l (omega arith) in
+    let ry : (l : Lane) → l .0 < n → at (replicate lanesMax one) l ≡ one = λ l h. row-of one .1 l (omega arith) in (
+      uniform-rows (s .args .mask) n (s .pre .3) f (x .row .result) (replicate lanesMax one) one rx ry (w .value .ensures) (c .hold .result) (c .hold .ensures),
+      uniform-value (s .args .mask) n (s .pre .3) f (x .row .result) (replicate lanesMax one) one rx ry (w .value .ensures),
     )
 
 pub uniform-spec : {M : Type 1} → statement M

@@ -4,7 +4,9 @@ use Rattle.machine.proofs.step.Statement.{statement}
 use Rattle.machine.proofs.step.Tie as tie
 
 returns : tie.Need-returns
-returns c = one-step _ _ _ _ (c .before .before .before .before .before .run .ensures)
+returns c =
+    let four = c .before .before .before .before in
+    one-step _ _ _ _ (four .before .run .ensures .1)
 
 pub step-spec : {M : Type 1} → statement M
 step-spec = tie.close (tie.spec (λ c κs. search needs) (λ c. search needs) (λ c. search needs) returns)

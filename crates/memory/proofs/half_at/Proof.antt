@@ -9,7 +9,8 @@ use Rattle.memory.proofs.half_at.Tie as tie
 
 returns : tie.Need-returns
 returns c =
-    let s = c .before .before .before .before .before .args in
+    let four = c .before .before .before .before in
+    let s = four .before .args in
     let e = ap (λ (j : ℕ). getD (s .d .now) j 0) (add-one (s .i)) in
     omega arith
 

@@ -1,11 +1,11 @@
-use mathlib.Core.Path.{refl}
+use mathlib.Core.Bool.{and-true}
 use Rattle.printout.specs.Printout.{filesOkOf}
 use Rattle.printout.proofs.files_ok.Statement.{statement}
 use Rattle.printout.proofs.files_ok.Tie as tie
 
 returns : tie.Need-returns
 unfolding filesOkOf
-returns c = refl
+returns c = simp and-true
 
 pub files-ok-spec : {M : Type 1} → statement M
 files-ok-spec = tie.close (tie.spec returns)

@@ -45,7 +45,8 @@ slice-aggregate-print-kernel c = sym (ap length (c .before .before .before .put-
 
 returns-3 : tie.Need-returns-3
 returns-3 c =
-    let put = c .before .before .before .before .before .before in
+    let four = c .before .before .before .before in
+    let put = four .before .before in
     let words = put .before .before .before .before .before .before .before in
     let files = words .before .before in
     let card = files .before .before .before in

@@ -4,7 +4,7 @@ use native.Mathlib.Omega.{arith}
 use borrow.Author.Tests.{not-true, not-false}
 use borrow.Author.Needs.{needs}
 use Rattle.printout.specs.Printout.{reportOf, buffersOkOf}
-use Rattle.printout.proofs.Cases.{print-short, print-done, room, counted}
+use Rattle.printout.proofs.Cases.{print-short, print-done, buffer-room, counted}
 use Rattle.printout.proofs.print_files.Statement.{statement}
 use Rattle.printout.proofs.print_files.Tie as tie
 
@@ -16,15 +16,16 @@ enough : (c : tie.Else1) → (let a = c .before .before .before .before .before 
 enough c = sym (c .before .buffers-ok .ensures) ∙ not-false _ (c .if1 .left)
 
 print-card-requires : tie.Need-print-card-requires
-print-card-requires c κs = room _ _ (enough (c .before .before .before))
+print-card-requires c κs = buffer-room _ _ (enough (c .before .before .before))
 
 returns-2 : tie.Need-returns-2
 returns-2 c =
-    let print = c .before .before .before .before .before .before in
+    let four = c .before .before .before .before in
+    let print = four .before .before in
     let put = print .print-card .ensures in
     let left = print .before .before .before .before in
     let a = left .before .before .before .before .before .before .before .before .before .args in
-    (counted (a .out .now) _ _ _ _ (reportOf (a .card .now) (a .kernel .now) (a .vector .now) (a .bytes .now)) (put .0) (put .1) (room _ _ (enough left)), put .0 ∙ print-done _ _ _ _ _ (enough left))
+    (counted (a .out .now) _ _ _ _ (reportOf (a .card .now) (a .kernel .now) (a .vector .now) (a .bytes .now)) (put .0) (put .1) (buffer-room _ _ (enough left)), put .0 ∙ print-done _ _ _ _ _ (enough left))
 
 pub print-files-spec : {M : Type 1} → statement M
 print-files-spec =

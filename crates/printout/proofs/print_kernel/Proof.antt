@@ -14,7 +14,9 @@ returns c =
 
 put-five-lines-requires : tie.Need-put-five-lines-requires
 put-five-lines-requires c κs =
-    let test = c .before .before .before .before .before .before .before .before .before .before .before .before in
+    let four = c .before .before .before .before in
+    let eight = four .before .before .before .before in
+    let test = eight .before .before .before .before in
     omega (arith, test .before .before .before .before .before .before .before .before .before .before .before .pre)
 
 returns-2 : tie.Need-returns-2
@@ -24,7 +26,7 @@ returns-2 c =
     let run = number .before .before .before .before .before .before .before in
     let test = run .before .before .before .before in
     let launched = launch-ran _ _ _ _ _ (test .before .before .before .before .launch .ensures) _ (test .before .number .ensures) (test .if1 .left) in
-    (put-report (put .0) (launched ∙ ap ranReport (sym (run .run .ensures)) ∙ rw (number .number2 .ensures)), put .1)
+    (put-report (put .0) (launched ∙ ap ranReport (sym (run .run .ensures .1)) ∙ rw (number .number2 .ensures)), put .1)
 
 pub print-kernel-spec : {M : Type 1} → statement M
 print-kernel-spec =

@@ -5,7 +5,9 @@ use Rattle.printout.proofs.put_decimal_line.Statement.{statement}
 use Rattle.printout.proofs.put_decimal_line.Tie as tie
 
 put-decimal-requires : tie.Need-put-decimal-requires
-put-decimal-requires c κs = let start = c .before .before .before .before .before .before .before in omega (arith, decimal-size (start .args .n))
+put-decimal-requires c κs =
+    let four = c .before .before .before .before in
+    let start = four .before .before .before in omega (arith, decimal-size (start .args .n))
 
 put-byte-requires : tie.Need-put-byte-requires
 put-byte-requires c κs =

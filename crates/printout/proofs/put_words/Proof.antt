@@ -2,7 +2,7 @@ use mathlib.Core.Path.{_≡_, refl}
 use Prim.Native.Nat.{_≤_, _-_, _/_}
 use native.Mathlib.Omega.{arith}
 use lib.ListN.{length, take, length-set}
-use Rattle.printout.specs.Printout.{firstWords, wordsOf}
+use Rattle.printout.specs.Printout.{firstWords, kernelWordsOf}
 use Rattle.printout.proofs.Laws.{words-more}
 use Rattle.printout.proofs.put_words.Statement.{statement}
 use Rattle.printout.proofs.put_words.Tie as tie
@@ -15,11 +15,12 @@ abbrev μ-loop : tie.MeasureT-loop
 
 loop-again : tie.Need-loop-again Inv-loop μ-loop
 loop-again c =
+    let four = c .before .before .before .before in
     let i = c .before .before .loop in
-    (omega arith, simp length-set (i .inv .1), rw (c .word-at .ensures) (words-more (c .before .before .before .before .before .args .kernel .now) (i .words) (i .i) (omega arith) (i .inv .2)))
+    (omega arith, simp length-set (i .inv .1), rw (c .word-at .ensures) (words-more (four .before .args .kernel .now) (i .words) (i .i) (omega arith) (i .inv .2)))
 
 returns : tie.Need-returns Inv-loop μ-loop
-unfolding wordsOf
+unfolding kernelWordsOf
 returns c =
     let i = c .before .loop in
     let e : i .i ≡ length (c .before .before .before .before .args .kernel .now) / 4 = omega arith in

@@ -2,7 +2,7 @@ use mathlib.Core.Path.{refl}
 use native.Mathlib.Omega.{arith}
 use Rattle.warp.proofs.Formed.{tid-small}
 use Rattle.warp.specs.Csr.{csrAt}
-use Rattle.running.specs.Words.{fixedIn, warpOf}
+use Rattle.layout.specs.Words.{fixedIn, warpOf}
 use borrow.Author.Needs.{needs}
 use Rattle.running.proofs.csr_at.Statement.{statement}
 use Rattle.running.proofs.csr_at.Tie as tie

@@ -12,27 +12,33 @@ returns c =
 
 returns-2 : tie.Need-returns-2
 returns-2 c =
-    let a = c .before .before .before .before .before .before .before .before in
+    let four = c .before .before .before .before in
+    let a = four .before .before .before .before in
     let l = c .before .before in
     λ g x.
     join-goes-off g (a .args .h .now) x (a .args .s .now) (a .pre .0) (a .pre .1) _ (a .pre .2) (l .before .before .if1 .left) _ (l .split-at .ensures)
-    (c .if2 .taken) (rw (c .before .before .before .before .before .add .ensures))
+    (c .if2 .taken) (rw (four .before .add .ensures))
 
 returns-3 : tie.Need-returns-3
 returns-3 c =
-    let a = c .before .before .before .before .before .before .before .before .before .before .before .before .before .before in
-    let l = c .before .before .before .before .before .before .before .before in
+    let four = c .before .before .before .before in
+    let eight = four .before .before .before .before in
+    let twelve = eight .before .before .before .before in
+    let a = twelve .before .before in
+    let l = four .before .before .before .before in
     λ g x.
     join-goes-close g (a .args .h .now) x (a .args .s .now) (a .pre .0) (a .pre .1) _ (a .pre .2) (l .before .before .if1 .left) _ (l .split-at .ensures)
-    (c .before .before .before .before .before .before .if2 .left) _ (c .before .before .before .before .before .if3 .taken) (c .resume .ensures) (c .before .before .put-split .ensures ∙ rw (c .before .before .before .zero-split .ensures))
+    (four .before .before .if2 .left) _ (four .before .if3 .taken) (c .resume .ensures) (c .before .before .put-split .ensures ∙ rw (c .before .before .before .zero-split .ensures))
 
 returns-4 : tie.Need-returns-4
 returns-4 c =
-    let a = c .before .before .before .before .before .before .before .before .before .before .before .before .before in
-    let l = c .before .before .before .before .before .before .before in
+    let four = c .before .before .before .before in
+    let eight = four .before .before .before .before in
+    let a = eight .before .before .before .before .before in
+    let l = four .before .before .before in
     λ g x.
     join-goes-turn g (a .args .h .now) x (a .args .s .now) (a .pre .0) (a .pre .1) _ (a .pre .2) (l .before .before .if1 .left) _ (l .split-at .ensures)
-    (c .before .before .before .before .before .if2 .left) _ (c .before .before .before .before .if3 .left) (c .resume2 .ensures) (c .before .before .put-split2 .ensures)
+    (four .before .if2 .left) _ (c .before .before .before .before .if3 .left) (c .resume2 .ensures) (c .before .before .put-split2 .ensures)
 
 pub join-spec : {M : Type 1} → statement M
 join-spec =

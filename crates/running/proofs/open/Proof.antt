@@ -5,10 +5,11 @@ use Rattle.running.proofs.open.Tie as tie
 
 returns : tie.Need-returns
 returns c =
-    let a = c .before .before .before .before .before .before .before .before .before in
+    let four = c .before .before .before .before in
+    let a = four .before .before .before .before .before in
     λ g x.
     open-goes g (a .args .h .now) x (a .args .s .now) (a .pre .0) (a .pre .1) _ _ (a .args .e) (a .args .p) _ (a .pre .2)
-    (c .resume .ensures) (c .before .before .before .before .before .add .ensures) (c .before .before .put-split .ensures)
+    (c .resume .ensures) (four .before .add .ensures) (c .before .before .put-split .ensures)
 
 pub open-spec : {M : Type 1} → statement M
 open-spec =

@@ -22,9 +22,10 @@ open-requires c κs =
 
 returns-3 : tie.Need-returns-3
 returns-3 c =
-    let a = c .before .before .before .before .before .before in
+    let four = c .before .before .before .before in
+    let a = four .before .before in
     λ g x.
-    part-goes-open g (a .args .h .now) x (a .args .s .now) (a .pre .0) (a .pre .1) _ (a .args .e) (a .args .p) _ (c .before .before .before .before .before .if1 .left) (c .before .before .before .if2 .left) (c .«open» .ensures g x)
+    part-goes-open g (a .args .h .now) x (a .args .s .now) (a .pre .0) (a .pre .1) _ (a .args .e) (a .args .p) _ (four .before .if1 .left) (c .before .before .before .if2 .left) (c .«open» .ensures g x)
 
 pub part-spec : {M : Type 1} → statement M
 part-spec =

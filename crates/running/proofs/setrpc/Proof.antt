@@ -5,10 +5,11 @@ use Rattle.running.proofs.setrpc.Tie as tie
 
 returns : tie.Need-returns
 returns c =
-    let a = c .before .before .before .before .before .before .before .before in
+    let four = c .before .before .before .before in
+    let a = four .before .before .before .before in
     λ g s n.
     setrpc-goes g (a .args .h .now) (a .args .x .now) s (a .pre .0) n _ _ (a .args .rd) (a .args .rs1) (a .args .i) _ _ _
-    (c .before .before .before .before .before .before .get-x .ensures) (c .before .before .before .before .before .extend .ensures) (c .before .before .before .before .add .ensures) (c .before .before .put-x .ensures) (c .next .ensures)
+    (four .before .before .get-x .ensures) (four .before .extend .ensures) (c .before .before .before .before .add .ensures) (c .before .before .put-x .ensures) (c .next .ensures)
 
 pub setrpc-spec : {M : Type 1} → statement M
 setrpc-spec =

@@ -2,7 +2,7 @@ use Prim.Native.Nat.{_≤_}
 use mathlib.Core.Path.{_≡_, refl, sym, _∙_}
 use borrow.Author.Needs.{needs}
 use Rattle.warp.specs.Warp.{splitCount}
-use Rattle.running.specs.Words.{phasesOkOf}
+use Rattle.layout.specs.Words.{phasesOkOf}
 use Rattle.saved.proofs.Laws.{phases-stop, phases-go, phases-end}
 use Rattle.saved.proofs.phases_ok.Statement.{statement}
 use Rattle.saved.proofs.phases_ok.Tie as tie

@@ -4,8 +4,9 @@ use mathlib.Core.List.{List}
 use lib.ListN.{drop}
 use borrow.Author.Tests.{not-true, not-false}
 use Rattle.warp.specs.Warp.{scalarCount, answered}
-use Rattle.running.specs.Words.{flatCount, movingCount, fixedCount, movingStart, fixedStart, soundOf, warpIn, soundIn}
-use Rattle.saved.proofs.Laws.{copied, parts-warp}
+use Rattle.layout.specs.Words.{flatCount, movingCount, fixedCount, movingStart, fixedStart, soundOf, warpIn, soundIn}
+use Rattle.layout.proofs.Copies.{copied}
+use Rattle.saved.proofs.Laws.{parts-warp}
 use Rattle.saved.proofs.SaveLaws.{restore-size, restore-bad, restore-done}
 use borrow.Author.Needs.{needs}
 use Rattle.saved.proofs.restore.Statement.{statement}

@@ -1,5 +1,5 @@
 use mathlib.Core.Path.{_∙_, ap}
-use Rattle.running.specs.Words.{wordsOf}
+use Rattle.layout.specs.Words.{wordsOf}
 use Rattle.saved.specs.Saved.{saving}
 use Rattle.saved.proofs.SaveLaws.{save-size, save-deep, save-done}
 use borrow.Author.Needs.{needs}

@@ -1,11 +1,12 @@
-use Rattle.running.specs.Words.{soundOf}
+use mathlib.Core.Bool.{and-true}
+use Rattle.layout.specs.Words.{soundOf}
 use borrow.Author.Needs.{needs}
 use Rattle.saved.proofs.sound.Statement.{statement}
 use Rattle.saved.proofs.sound.Tie as tie
 
 returns : tie.Need-returns
 unfolding soundOf
-returns c = rw (c .before .before .before .phases-ok .ensures)
+returns c = simp (c .before .before .before .phases-ok .ensures, and-true)
 
 pub sound-spec : {M : Type 1} → statement M
 sound-spec =

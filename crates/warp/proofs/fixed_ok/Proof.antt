@@ -18,7 +18,8 @@ cast-result c = search needs
 returns-2 : tie.Need-returns-2
 unfolding fixedOkOf
 returns-2 c =
-    let m = c .before .before .before .before .before .before .before in
+    let four = c .before .before .before .before in
+    let m = four .before .before .before in
     simp (le-leb _ _ (m .before .if1 .left), m .mask-room .ensures, and-true)
 
 pub fixed-ok-spec : {M : Type 1} → statement M

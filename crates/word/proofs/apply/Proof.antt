@@ -1,6 +1,6 @@
 use mathlib.Core.Path.{ap, _∙_}
-use mathlib.Core.Bool.{Bool, not}
-use Rattle.word.specs.Word.{flagOf, pick}
+use mathlib.Core.Bool.{Bool, not, cond}
+use Rattle.word.specs.Word.{flagOf}
 use borrow.Author.Needs.{needs}
 use Rattle.word.proofs.apply.Statement.{statement}
 use Rattle.word.proofs.apply.Tie as tie
@@ -39,7 +39,6 @@ apply-spec =
     (λ c. search needs) (λ c κs. search needs)
     (λ c. search needs) (λ c κs. search needs)
     (λ c. search needs) (λ c κs. search needs)
-    (λ c. search needs)
     (λ c. rw (c .before .enum-told .given .1) (c .add .ensures))
     (λ c. rw (c .before .enum-told2 .given .1) (c .sub .ensures))
     (λ c. rw (c .before .enum-told3 .given .1) (c .sub2 .ensures))
@@ -59,14 +58,13 @@ apply-spec =
     (λ c. rw (c .before .enum-told17 .given .1) (c .divu .ensures))
     (λ c. rw (c .before .enum-told18 .given .1) (c .rem .ensures))
     (λ c. rw (c .before .enum-told19 .given .1) (c .remu .ensures))
-    (λ c. rw (c .before .before .enum-told20 .given .1) (c .choose .ensures ∙ ap (λ (t : Bool). pick t (c .before .before .before .before .args .a) (c .before .before .before .before .args .b)) (c .before .less .ensures)))
+    (λ c. rw (c .before .before .enum-told20 .given .1) (c .choose .ensures ∙ ap (λ (t : Bool). cond t (c .before .before .before .before .args .a) (c .before .before .before .before .args .b)) (c .before .less .ensures)))
     (λ c. rw (c .before .enum-told21 .given .1) (c .choose2 .ensures))
-    (λ c. rw (c .before .before .enum-told22 .given .1) (c .choose3 .ensures ∙ ap (λ (t : Bool). pick t (c .before .before .before .before .args .b) (c .before .before .before .before .args .a)) (c .before .less2 .ensures)))
+    (λ c. rw (c .before .before .enum-told22 .given .1) (c .choose3 .ensures ∙ ap (λ (t : Bool). cond t (c .before .before .before .before .args .b) (c .before .before .before .before .args .a)) (c .before .less2 .ensures)))
     (λ c. rw (c .before .enum-told23 .given .1) (c .choose4 .ensures))
     (λ c. rw (c .before .enum-told24 .given .1) (c .flag .ensures))
     (λ c. rw (c .before .enum-told25 .given .1) (c .flag2 .ensures))
     (λ c. rw (c .before .before .enum-told26 .given .1) (c .flag3 .ensures ∙ ap (λ (t : Bool). flagOf (not t)) (c .before .less3 .ensures)))
     (λ c. rw (c .before .enum-told27 .given .1) (c .flag4 .ensures))
     (λ c. rw (c .before .enum-told28 .given .1) (c .slt2 .ensures))
-    (λ c. rw (c .before .enum-told29 .given .1) (c .sltu2 .ensures))
-    (λ c. rw (c .enum-told30 .given .1)))
+    (λ c. rw (c .before .enum-told29 .given .1) (c .sltu2 .ensures)))

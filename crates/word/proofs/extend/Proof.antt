@@ -12,22 +12,22 @@ shl-half : tie.Need-shl-half
 shl-half c = search needs
 
 sub-result : tie.Need-sub-result
-sub-result c = omega (arith, half (c .before .args .n) (c .before .pre .0) (c .before .pre .1 .0))
+sub-result c = omega (arith, half (c .before .args .n) (c .before .pre .0) (c .before .pre .1))
 
 add-result : tie.Need-add-result
-add-result c = record { fits = omega (arith, half (c .before .args .n) (c .before .pre .0) (c .before .pre .1 .0)) }
+add-result c = record { fits = omega (arith, half (c .before .args .n) (c .before .pre .0) (c .before .pre .1)) }
 
 sub-result-2 : tie.Need-sub-result-2
-sub-result-2 c = omega (arith, half (c .before .args .n) (c .before .pre .0) (c .before .pre .1 .0))
+sub-result-2 c = omega (arith, half (c .before .args .n) (c .before .pre .0) (c .before .pre .1))
 
 add-result-2 : tie.Need-add-result-2
-add-result-2 c = let h = half (c .before .args .n) (c .before .pre .0) (c .before .pre .1 .0) in record { fits = omega (arith, h .twice) }
+add-result-2 c = let h = half (c .before .args .n) (c .before .pre .0) (c .before .pre .1) in record { fits = omega (arith, h .twice) }
 
 returns : tie.Need-returns
-returns c = let h = half (c .before .args .n) (c .before .pre .0) (c .before .pre .1 .0) in rw (← h .is, lt-ltb _ _ (c .if1 .taken))
+returns c = let h = half (c .before .args .n) (c .before .pre .0) (c .before .pre .1) in rw (← h .is, lt-ltb _ _ (c .if1 .taken))
 
 returns-2 : tie.Need-returns-2
-returns-2 c = let h = half (c .before .args .n) (c .before .pre .0) (c .before .pre .1 .0) in rw (← h .is, le-ltb _ _ (c .if1 .left)) (omega (arith, h .twice))
+returns-2 c = let h = half (c .before .args .n) (c .before .pre .0) (c .before .pre .1) in rw (← h .is, le-ltb _ _ (c .if1 .left)) (omega (arith, h .twice))
 
 pub extend-spec : {M : Type 1} → statement M
 extend-spec =

@@ -1,7 +1,7 @@
 use mathlib.Core.Path.{ap, _∙_}
 use Prim.Native.Nat.{_^_, _%_}
 use Rattle.word.specs.Word.{signed, asWord}
-use Rattle.word.proofs.Laws.{read, shr-read, signed-fits}
+use Rattle.word.proofs.Laws.{read-back, shr-read, signed-fits}
 use borrow.Author.Needs.{needs}
 use Rattle.word.proofs.sra.Statement.{statement}
 use Rattle.word.proofs.sra.Tie as tie
@@ -19,7 +19,7 @@ word-requires : tie.Need-word-requires
 word-requires c κs = search needs
 
 returns : tie.Need-returns
-returns c = let s = c .before .before in c .word .ensures ∙ ap asWord (shr-read (signed (s .args .a)) (2 ^ (s .args .b % 32)) (read (c .before .value .result) (s .args .a) (s .fits .a .fits) (c .before .value .ensures)) (signed-fits (s .args .a) (s .fits .a .fits)))
+returns c = let s = c .before .before in c .word .ensures ∙ ap asWord (shr-read (signed (s .args .a)) (2 ^ (s .args .b % 32)) (read-back (c .before .value .result) (s .args .a) (s .fits .a .fits) (c .before .value .ensures)) (signed-fits (s .args .a) (s .fits .a .fits)))
 
 pub sra-spec : {M : Type 1} → statement M
 sra-spec = tie.close (tie.spec value-requires cast-word shr-word word-requires returns)

@@ -1,10 +1,10 @@
--- `decoder::vector::multiply_row` meets its contract: each arm is a row. Assumes nothing.
+-- Each arm is a row.
 use mathlib.Core.List.{[]}
 use Rattle.isa.specs.declared.Instr.the-variants.{Refused}
 use Rattle.isa.specs.Fields.{fieldsOf}
 use Rattle.isa.specs.Vector.{multiplyTable}
 use Rattle.isa.specs.Number.{opAt}
-use Rattle.isa.specs.Kinds.{vectorWord, rowOf}
+use Rattle.isa.specs.Kinds.{laneOpWord, rowOf}
 use Rattle.isa.proofs.Laws.{past}
 use Rattle.decoder.proofs.vector.multiply_row.Statement.{statement}
 use Rattle.decoder.proofs.vector.multiply_row.Tie as tie
@@ -22,4 +22,4 @@ multiply-row-spec =
     (λ c w. simp (c .match .keys6))
     (λ c w. simp (c .match .keys7))
     (λ c w. simp (c .match .keys8))
-    (λ c w. past (λ f. vectorWord (f .op) (fieldsOf w)) Refused _ multiplyTable [] (c .match .rest)))
+    (λ c w. past (λ f. laneOpWord (f .op) (fieldsOf w)) Refused _ multiplyTable [] (c .match .rest)))

@@ -1,17 +1,17 @@
--- `decoder::vector::multiply_vv` meets its contract: a move, vid.v, or a row of the table. Assumes nothing.
+-- A move, vid.v, or a row of the table.
 use mathlib.Core.Path.{_∙_}
 use mathlib.Core.List.{[], _∷_}
 use native.Mathlib.Omega.{arith}
 use borrow.Author.Needs.{needs}
 use Rattle.isa.specs.Fields.{fieldsOf, funct6}
-use Rattle.isa.specs.Vector.{multiplyTable, movesM, fromV, multiplyOf}
-use Rattle.isa.specs.Kinds.{sourceOf, rowOf}
+use Rattle.isa.specs.Vector.{multiplyTable, movesM, fromV, multiplyWord}
+use Rattle.isa.specs.Kinds.{sourceIn, rowOf}
 use Rattle.isa.proofs.Forms.{form-in}
 use Rattle.decoder.proofs.vector.multiply_vv.Statement.{statement}
 use Rattle.decoder.proofs.vector.multiply_vv.Tie as tie
 
 pub multiply-vv-spec : {M : Type 1} → statement M
-unfolding rowOf multiplyOf sourceOf
+unfolding rowOf multiplyWord sourceIn
 multiply-vv-spec =
     tie.close
     (tie.spec

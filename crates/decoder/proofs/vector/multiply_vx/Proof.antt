@@ -1,17 +1,17 @@
--- `decoder::vector::multiply_vx` meets its contract: a move, or a row of the table. Assumes nothing.
+-- A move, or a row of the table.
 use mathlib.Core.Path.{_∙_}
 use mathlib.Core.List.{[], _∷_}
 use native.Mathlib.Omega.{arith}
 use borrow.Author.Needs.{needs}
 use Rattle.isa.specs.Fields.{fieldsOf, funct6}
-use Rattle.isa.specs.Vector.{multiplyTable, movesM, fromX, multiplyOf}
-use Rattle.isa.specs.Kinds.{sourceOf, rowOf}
+use Rattle.isa.specs.Vector.{multiplyTable, movesM, fromX, multiplyWord}
+use Rattle.isa.specs.Kinds.{sourceIn, rowOf}
 use Rattle.isa.proofs.Forms.{form-in}
 use Rattle.decoder.proofs.vector.multiply_vx.Statement.{statement}
 use Rattle.decoder.proofs.vector.multiply_vx.Tie as tie
 
 pub multiply-vx-spec : {M : Type 1} → statement M
-unfolding rowOf multiplyOf sourceOf
+unfolding rowOf multiplyWord sourceIn
 multiply-vx-spec =
     tie.close
     (tie.spec

@@ -1,18 +1,18 @@
--- `decoder::vector::operands` meets its contract: each arm is a row. Assumes nothing.
+-- Each arm is a row.
 use mathlib.Core.Path.{_∙_}
 use mathlib.Core.List.{[]}
 use borrow.Author.Needs.{needs}
 use Rattle.isa.specs.declared.Instr.the-variants.{Refused}
 use Rattle.isa.specs.Fields.{fieldsOf}
 use Rattle.isa.specs.Table.{on}
-use Rattle.isa.specs.Vector.{operands, operandsOf}
+use Rattle.isa.specs.Vector.{operands, operandsWord}
 use Rattle.isa.specs.Kinds.{rowOf}
 use Rattle.isa.proofs.Laws.{past}
 use Rattle.decoder.proofs.vector.operands.Statement.{statement}
 use Rattle.decoder.proofs.vector.operands.Tie as tie
 
 pub operands-spec : {M : Type 1} → statement M
-unfolding rowOf operandsOf
+unfolding rowOf operandsWord
 operands-spec =
     tie.close
     (tie.spec

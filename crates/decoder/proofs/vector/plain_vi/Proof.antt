@@ -1,18 +1,18 @@
--- `decoder::vector::plain_vi` meets its contract: a move, or a row of the table that has the form. Assumes nothing.
+-- A move, or a row of the table that has the form.
 use mathlib.Core.Path.{_≡_, _∙_}
 use mathlib.Core.List.{[], _∷_}
 use mathlib.Core.Logic.{⊎-elim}
 use native.Mathlib.Omega.{arith}
 use borrow.Author.Needs.{needs}
 use Rattle.isa.specs.Fields.{fieldsOf, funct6}
-use Rattle.isa.specs.Vector.{vectorTable, moves, fromI, plainOf}
-use Rattle.isa.specs.Kinds.{sourceOf, rowOf}
+use Rattle.isa.specs.Vector.{vectorTable, moves, fromI, plainWord}
+use Rattle.isa.specs.Kinds.{sourceIn, rowOf}
 use Rattle.isa.proofs.Forms.{form-in, form-out}
 use Rattle.decoder.proofs.vector.plain_vi.Statement.{statement}
 use Rattle.decoder.proofs.vector.plain_vi.Tie as tie
 
 pub plain-vi-spec : {M : Type 1} → statement M
-unfolding rowOf plainOf sourceOf
+unfolding rowOf plainWord sourceIn
 plain-vi-spec =
     tie.close
     (tie.spec
@@ -34,7 +34,7 @@ plain-vi-spec =
     let p = c .before .before in
     let f = fieldsOf (p .before .args .w) in
     let e = p .match .rest in
-    let q : sourceOf f ≡ fromI f = simp (p .before .pre) in
+    let q : sourceIn f ≡ fromI f = simp (p .before .pre) in
     let row = form-in f (funct6 f) (fromI f) q (moves (fromI f)) (e .0) vectorTable in
     c .row .ensures (p .before .args .w)
     ∙ ⊎-elim (λ t. row (23 ∷ 2 ∷ []) 0 4 (omega arith) (omega arith) e tt)

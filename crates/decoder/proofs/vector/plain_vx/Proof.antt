@@ -1,17 +1,17 @@
--- `decoder::vector::plain_vx` meets its contract: a move, or a row of the table. Assumes nothing.
+-- A move, or a row of the table.
 use mathlib.Core.Path.{_∙_}
 use mathlib.Core.List.{[], _∷_}
 use native.Mathlib.Omega.{arith}
 use borrow.Author.Needs.{needs}
 use Rattle.isa.specs.Fields.{fieldsOf, funct6}
-use Rattle.isa.specs.Vector.{vectorTable, moves, fromX, plainOf}
-use Rattle.isa.specs.Kinds.{sourceOf, rowOf}
+use Rattle.isa.specs.Vector.{vectorTable, moves, fromX, plainWord}
+use Rattle.isa.specs.Kinds.{sourceIn, rowOf}
 use Rattle.isa.proofs.Forms.{form-in}
 use Rattle.decoder.proofs.vector.plain_vx.Statement.{statement}
 use Rattle.decoder.proofs.vector.plain_vx.Tie as tie
 
 pub plain-vx-spec : {M : Type 1} → statement M
-unfolding rowOf plainOf sourceOf
+unfolding rowOf plainWord sourceIn
 plain-vx-spec =
     tie.close
     (tie.spec

@@ -1,10 +1,10 @@
--- `decoder::vector::row` meets its contract: each arm is a row. Assumes nothing.
+-- Each arm is a row.
 use mathlib.Core.List.{[]}
 use Rattle.isa.specs.declared.Instr.the-variants.{Refused}
 use Rattle.isa.specs.Fields.{fieldsOf}
 use Rattle.isa.specs.Vector.{vectorTable}
 use Rattle.isa.specs.Number.{opAt}
-use Rattle.isa.specs.Kinds.{vectorWord, rowOf}
+use Rattle.isa.specs.Kinds.{laneOpWord, rowOf}
 use Rattle.isa.proofs.Laws.{past}
 use Rattle.decoder.proofs.vector.row.Statement.{statement}
 use Rattle.decoder.proofs.vector.row.Tie as tie
@@ -35,4 +35,4 @@ row-spec =
     (λ c w. simp (c .match .keys19))
     (λ c w. simp (c .match .keys20))
     (λ c w. simp (c .match .keys21))
-    (λ c w. past (λ f. vectorWord (f .op) (fieldsOf w)) Refused _ vectorTable [] (c .match .rest)))
+    (λ c w. past (λ f. laneOpWord (f .op) (fieldsOf w)) Refused _ vectorTable [] (c .match .rest)))

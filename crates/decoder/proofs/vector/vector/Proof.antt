@@ -1,13 +1,13 @@
--- `decoder::vector::vector` meets its contract: vm is 1, or there is no kind. Assumes nothing.
+-- Vm is 1, or there is no kind.
 use borrow.Author.Needs.{needs}
 use borrow.Author.Tests.{ne-eqb}
-use Rattle.isa.specs.Vector.{vectorOf}
+use Rattle.isa.specs.Vector.{vectorWord}
 use Rattle.isa.specs.Kinds.{rowOf}
 use Rattle.decoder.proofs.vector.vector.Statement.{statement}
 use Rattle.decoder.proofs.vector.vector.Tie as tie
 
 pub vector-spec : {M : Type 1} → statement M
-unfolding rowOf vectorOf
+unfolding rowOf vectorWord
 vector-spec =
     tie.close
     (tie.spec

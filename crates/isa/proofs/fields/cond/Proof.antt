@@ -1,4 +1,4 @@
--- `isa::fields::cond` meets its contract: each arm is a row, and the last row is the default. Assumes nothing.
+-- Each arm is a row, and the last row is the default.
 use lib.ListN.{take}
 use Rattle.isa.specs.Scalar.{conditions}
 use Rattle.isa.specs.Kinds.{condOf}

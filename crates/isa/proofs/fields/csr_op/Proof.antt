@@ -1,10 +1,10 @@
--- `isa::fields::csr_op` meets its contract: each arm is a row of one of the two tables, whose last rows are the default. Assumes nothing.
+-- Each arm is a row of one of the two tables, whose last rows are the default.
 use lib.Dec.{ltb}
 use lib.ListN.{take}
 use Rattle.isa.specs.declared.CsrOp.the-variants as R
 use Rattle.isa.specs.Fields.{fieldsOf}
 use Rattle.answer.specs.Rows.{_⇒_}
-use Rattle.isa.specs.Scalar.{csrs, csrImmediates}
+use Rattle.isa.specs.Scalar.{csrOps, csrImmediates}
 use Rattle.isa.specs.Kinds.{csrOpOf}
 use Rattle.isa.proofs.Tables.{both-ways, at-last}
 use Rattle.isa.proofs.fields.csr_op.Statement.{statement}
@@ -22,5 +22,5 @@ csr-op-spec =
     (λ c.
     let n = c .match .rest in
     both-ways (ltb (fieldsOf (c .before .args .w) .funct3) 4)
-    (at-last _ (take 2 csrs) (3 ⇒ R.Rc) (n .0 .0))
+    (at-last _ (take 2 csrOps) (3 ⇒ R.Rc) (n .0 .0))
     (at-last _ (take 2 csrImmediates) (7 ⇒ R.Rc) ((tt, n .0 .1), n .1))))

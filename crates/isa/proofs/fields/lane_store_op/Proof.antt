@@ -1,4 +1,4 @@
--- `isa::fields::lane_store_op` meets its contract: each arm is a row. Assumes nothing.
+-- Each arm is a row.
 use lib.ListN.{take}
 use Rattle.isa.specs.Ventus.{vstores}
 use Rattle.isa.proofs.Tables.{at-last}

@@ -1,4 +1,4 @@
--- `isa::fields::load_op` meets its contract: each arm is a row, and the last row is the default. Assumes nothing.
+-- Each arm is a row, and the last row is the default.
 use lib.ListN.{take}
 use Rattle.isa.specs.Scalar.{loads}
 use Rattle.isa.specs.Kinds.{loadOpOf}

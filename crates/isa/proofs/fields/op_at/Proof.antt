@@ -1,6 +1,6 @@
--- `isa::fields::op_at` meets its contract: each arm is a row, and the last row is the default. Assumes nothing.
+-- Each arm is a row, and the last row is the default.
 use lib.ListN.{take}
-use Rattle.isa.specs.Number.{everyOp, numbered, opAt}
+use Rattle.isa.specs.Number.{everyOp, byNumber, opAt}
 use Rattle.isa.proofs.Tables.{at-last}
 use Rattle.isa.proofs.fields.op_at.Statement.{statement}
 use Rattle.isa.proofs.fields.op_at.Tie as tie
@@ -38,5 +38,4 @@ op-at-spec =
     (λ c. simp (c .match .keys26))
     (λ c. simp (c .match .keys27))
     (λ c. simp (c .match .keys28))
-    (λ c. simp (c .match .keys29))
-    (λ c. at-last _ (take 29 (numbered everyOp)) _ (c .match .rest)))
+    (λ c. at-last _ (take 28 (byNumber everyOp)) _ (c .match .rest)))

@@ -1,4 +1,4 @@
--- `isa::fields::source` meets its contract: each arm is a row. Assumes nothing.
+-- Each arm is a row.
 use mathlib.Core.Path.{_∙_, ap}
 use mathlib.Core.List.{[], _∷_}
 use borrow.Author.Needs.{needs}
@@ -7,12 +7,12 @@ use Rattle.isa.specs.declared.Source.the-variants as From
 use Rattle.isa.specs.Fields.{fieldsOf}
 use Rattle.isa.specs.Vector.{fromV, fromX, fromI}
 use Rattle.isa.proofs.Laws.{past}
-use Rattle.isa.specs.Kinds.{sourceOf}
+use Rattle.isa.specs.Kinds.{sourceIn}
 use Rattle.isa.proofs.fields.source.Statement.{statement}
 use Rattle.isa.proofs.fields.source.Tie as tie
 
 pub source-spec : {M : Type 1} → statement M
-unfolding sourceOf
+unfolding sourceIn
 source-spec =
     tie.close
     (tie.spec

@@ -1,4 +1,4 @@
--- `isa::fields::store_op` meets its contract: each arm is a row. Assumes nothing.
+-- Each arm is a row.
 use lib.ListN.{take}
 use Rattle.isa.specs.Scalar.{stores}
 use Rattle.isa.proofs.Tables.{at-last}

@@ -1,0 +1,29 @@
+-- by funct3
+use Rattle.answer.specs.Rows.{_⇒_}
+use Rattle.isa.specs.Fields.{fieldsOf}
+use Rattle.isa.specs.Kinds.{sourceIn}
+use Rattle.isa.proofs.Laws.{past}
+use Rattle.isa.specs.Vector.{fromI, fromV, fromX}
+use Rattle.layout.specs.Words.{warpOf}
+use borrow.Author.Needs.{needs}
+use mathlib.Core.List.{[], _∷_}
+use mathlib.Core.Path.{_∙_, sym}
+use Rattle.lane_handlers.proofs.operand.Statement.{statement}
+use Rattle.lane_handlers.proofs.operand.Tie as tie
+
+pub operand-spec : {M : Type 1} → statement M
+unfolding sourceIn warpOf
+operand-spec =
+    tie.close
+    (tie.spec
+    (λ c κs. search needs)
+    (λ c κs. search needs)
+    (λ c κs. search needs)
+    (λ c κs. search needs)
+    (λ c. search needs)
+    (λ c κs. search needs)
+    (λ c κs. search needs)
+    (λ c. ((c .vs1) .ensures .1, λ g h s v d. rw ((c .vs1) .ensures .0) (simp (sym ((c .before .before .funct3) .ensures .0) ∙ (c .before .match) .keys1))))
+    (λ c. ((c .vs12) .ensures .1, λ g h s v d. rw ((c .vs12) .ensures .0) (simp (sym ((c .before .before .funct3) .ensures .0) ∙ (c .before .match) .keys2))))
+    (λ c. (tt, λ g h s v d. rw ((c .extend) .ensures, (c .before .rs1) .ensures .0) (simp (sym ((c .before .before .before .funct3) .ensures .0) ∙ (c .before .before .match) .keys3))))
+    (λ c. let a = (c .before .before .before .args) in let f = fieldsOf (a .w) in (tt, λ g h s v d. rw ((c .first) .ensures, ← (c .before .before .funct3) .ensures .0, ← past (λ a. a) (fromX f) _ (0b000 ⇒ fromV f ∷ 0b010 ⇒ fromV f ∷ 0b011 ⇒ fromI f ∷ []) [] ((c .before .match) .rest)))))

@@ -1,0 +1,94 @@
+use Prim.Native.Nat.{ℕ, _%_}
+use mathlib.Core.List.{List}
+use mathlib.Core.Logic.{⊎-elim}
+use mathlib.Core.Path.{_≡_, _∙_, refl, sym, ap}
+use native.Mathlib.Omega.{arith}
+use lib.ListN.{length}
+use borrow.Author.Needs.{needs}
+use Rattle.word.specs.declared.Op.{Op}
+use Rattle.isa.specs.declared.VReg.{VReg}
+use Rattle.isa.specs.Fields.{fieldsOf, v as vOf}
+use Rattle.isa.specs.Kinds.{opLimit, laneOpWord, sourceIn}
+use Rattle.isa.specs.Number.{opAt}
+use Rattle.lanes.specs.declared.Lane.{Lane}
+use Rattle.lanes.specs.declared.Operand.{Operand}
+use Rattle.lanes.specs.Lanes.{opLane, writeLanes}
+use Rattle.lanes.specs.Mask.{bit}
+use Rattle.lanes.proofs.Laws.{write-length}
+use Rattle.layout.specs.Words.{maskIn, fixedIn, warpOf}
+use Rattle.definition.specs.Exec.{effectOf}
+use Rattle.definition.specs.Refuse.{refusalsOf}
+use Rattle.definition.specs.State.{state}
+use Rattle.definition.proofs.Immediate.{shift-operand}
+use Rattle.handlers.proofs.Laws.{written}
+use Rattle.lane_handlers.proofs.vector.Statement.{statement}
+use Rattle.lane_handlers.proofs.vector.Tie as tie
+
+abbrev op : tie.After-vs2 → tie.After-op-at
+op t = t .before .before .before .before
+
+abbrev start : tie.After-vs2 → tie.Start
+start t = op t .before .before .before
+
+op-lanes-requires : tie.Need-op-lanes-requires
+op-lanes-requires c κs =
+    let t = c .before .before .before .before in
+    let lent = start t .pre .at in (
+      lent .file,
+      t .before .vd .ensures .1,
+      t .vs2 .ensures .1,
+      rw (c .before .before .b .given .1) at (op t .before .operand .ensures .0),
+      omega (arith, t .before .before .threads .ensures, lent .fixed .lanes .1),
+      rw (t .before .before .threads .ensures) (lent .below),
+    )
+
+op-lanes-requires-2 : tie.Need-op-lanes-requires-2
+op-lanes-requires-2 c κs =
+    let t = c .before .before .before .before in
+    let lent = start t .pre .at in (
+      lent .file,
+      t .before .vd .ensures .1,
+      t .vs2 .ensures .1,
+      rw (c .before .before .b2 .given .1) at (op t .before .operand .ensures .0),
+      omega (arith, t .before .before .threads .ensures, lent .fixed .lanes .1),
+      rw (t .before .before .threads .ensures) (lent .below),
+    )
+
+-- whichever call was made, the file has what the operation gives with the operand
+given : (m : tie.At-match-came) →
+    let t = m .before in
+    let a = start t .args in
+    m .match .v ≡ writeLanes (t .before .before .threads .result) (bit (maskIn (a .h .now))) (t .before .vd .result) (opLane (op t .op-at .result) (a .v .now) (t .vs2 .result) (op t .before .operand .result)) (a .v .now)
+given m =
+    let t = m .before in
+    let a = start t .args in
+    let file : Operand → List ℕ = λ b. writeLanes (t .before .before .threads .result) (bit (maskIn (a .h .now))) (t .before .vd .result) (opLane (op t .op-at .result) (a .v .now) (t .vs2 .result) b) (a .v .now) in
+    ⊎-elim (λ w. w .7 ∙ w .4 .ensures ∙ ap file (sym (w .1 .given .1))) (λ w. w .7 ∙ w .4 .ensures ∙ ap file (sym (w .1 .given .1))) (m .match .came)
+
+told : (n n' m : ℕ) (d d' : VReg) (o o' : Op) (v : List ℕ) (a a' : VReg) (b b' : Operand) → n ≡ n' → d ≡ d' → o ≡ o' → a ≡ a' → b ≡ b'
+    → writeLanes n (bit m) d (opLane o v a b) v ≡ writeLanes n' (bit m) d' (opLane o' v a' b') v
+told n n' m d d' o o' v a a' b b' p q r s t = rw (p, q, r, s, t)
+
+same-length : tie.Need-same-length
+same-length c = ap length (given (c .before .before)) ∙ write-length _ _ _ _ _
+
+returns : tie.Need-returns
+unfolding warpOf effectOf refusalsOf
+returns c =
+    let t = c .before .before .before in
+    let a = start t .args in
+    let f = fieldsOf (a .w) in
+    λ s d n.
+    written (laneOpWord (opAt (a .kind % opLimit)) f) (a .g .now) (a .h .now) (a .x .now) s (a .v .now) d _ (start t .pre .long) n (c .next .ensures) refl (bit (maskIn (a .h .now))) _ _ _ refl
+    (given (c .before .before)
+    ∙ told _ _ _ _ _ _ _ (a .v .now) _ _ _ _ (t .before .before .threads .ensures) (t .before .vd .ensures .0) (op t .op-at .ensures) (t .vs2 .ensures .0) (op t .before .operand .ensures .1 (a .g .now) (a .h .now) s (a .v .now) d)
+    ∙ ap (λ (e : Lane → ℕ). writeLanes (fixedIn (a .g .now) .numt) (bit (maskIn (a .h .now))) (vOf (f .rd)) e (a .v .now))
+    (shift-operand (opAt (a .kind % opLimit)) (a .v .now) (vOf (f .rs2)) (sourceIn f) (state (warpOf (a .g .now) (a .h .now) (a .x .now) s) (a .v .now) d)))
+
+pub vector-spec : {M : Type 1} → statement M
+vector-spec =
+    tie.close
+    (tie.spec
+    (λ c κs. search needs) (λ c κs. search needs) (λ c. search needs) (λ c κs. search needs) (λ c κs. search needs) (λ c κs. search needs)
+    (λ c. search needs) op-lanes-requires (λ c. search needs) op-lanes-requires-2
+    (λ c κs. search needs) same-length returns)

@@ -1,0 +1,252 @@
+// What a row of the vector tables does to the lent words: a handler a row, and the accesses by lanes.
+use handlers::first;
+use handlers::gives;
+use handlers::offset;
+use handlers::threads;
+use isa::Instr;
+use isa::Space;
+use isa::fields;
+use isa::kinds;
+use lanes::Operand;
+use layout::DATABASE;
+use layout::FIXED;
+use layout::FLAT;
+use layout::MASK;
+use layout::MOVING;
+use layout::NUMT;
+use layout::NUMW;
+use layout::PDS;
+use layout::SCALARS;
+use layout::WID;
+use memory::Private;
+ghost use mathlib.Core.Path.{_≡_};
+ghost use mathlib.Core.Bool.{cond};
+ghost use mathlib.Core.List.{List};
+ghost use Prim.Native.Nat.{ℕ, _+_, _%_, _<_, _≤_};
+ghost use lib.Count.{ones};
+ghost use lib.ListN.{length};
+ghost use Rattle.word.specs.Word.{extendOf};
+ghost use Rattle.isa.specs.Fields.{fieldsOf, x as xOf, v as vOf, immB};
+ghost use Rattle.isa.specs.Number.{opAt};
+ghost use Rattle.isa.specs.Kinds.{condOf, laneOpWord, opLimit};
+ghost use Rattle.isa.specs.Kinds.{sourceIn};
+ghost use Rattle.lanes.specs.Rows.{OperandOk};
+ghost use Rattle.memory.specs.Memory.{memory, MemoryOk};
+ghost use Rattle.memory.specs.Address.{offsetLimit};
+ghost use Rattle.warp.specs.Warp.{maxThreads};
+ghost use Rattle.warp.specs.Facts.{FixedOk};
+ghost use Rattle.layout.specs.Words.{flatCount, maskIn, depthIn, fixedIn, warpOf};
+ghost use Rattle.running.specs.Goes.{nextIn};
+ghost use Rattle.definition.specs.State.{state, privateIn};
+ghost use Rattle.definition.specs.Exec.{sourceOf};
+ghost use Rattle.definition.specs.Step.{execOf};
+ghost use Rattle.handlers.specs.Handles.{lists, Handles};
+ghost use Rattle.lane_handlers.specs.Lanes.{LanesAt, Lanes, LaneLoad, LaneStore};
+
+// ---- what a handler reads
+
+// A vector word's last operand, an immediate sign-extended whatever the operation: a shift looks at the low five bits only.
+fn operand(x: &[u32; SCALARS], w: u32) -> Operand
+    ensures { λ b. ⌜ OperandOk b × ((g h s v d : List ℕ) → b ≡ sourceOf (extendOf 5) (sourceIn (fieldsOf w)) (state (warpOf g h (now (x .entry)) s) v d)) ⌝ }
+{
+    let funct3 = fields::funct3(w);
+    match funct3 {
+        0b000 => Operand::Reg(fields::vs1(w)),
+        0b010 => Operand::Reg(fields::vs1(w)),
+        0b011 => Operand::Word(word::extend(5, fields::rs1(w) as u32)),
+        _ => Operand::Word(first(x, w)),
+    }
+}
+
+// What the private rule takes from the launch.
+fn private(g: &[u32; FIXED]) -> Private
+    requires { ⌜ FixedOk (fixedIn (now g)) ⌝ }
+    ensures { λ p. ⌜ p ≡ privateIn (fixedIn (now (g .entry))) ⌝ }
+{
+    Private {
+        numt: g[NUMT],
+        numw: g[NUMW],
+        tid: g[WID] * g[NUMT],
+        pds: g[PDS],
+    }
+}
+
+// ---- lane by lane
+
+// The operand is taken apart here: handed on as one value, it makes every scalar step a fifth slower (docs/SPEED.md).
+pub fn vector(
+    h: &mut [u32; MOVING],
+    g: &[u32; FIXED],
+    x: &[u32; SCALARS],
+    v: &mut [u32],
+    kind: u32,
+    w: u32,
+) -> u32
+    requires { ⌜ Lanes (now g) (now h) (now v) ⌝ }
+    ensures { λ c. ⌜ ((s d : List ℕ) → length s ≡ flatCount → Handles (execOf (laneOpWord (opAt (kind % opLimit)) (fieldsOf w))) c (lists (now (g .entry)) (now (h .entry)) (now (x .entry)) s (now (v .entry)) d) (lists (now (g .entry)) (now (h .exit)) (now (x .entry)) s (now (v .exit)) d)) ⌝ }
+{
+    let b = operand(x, w);
+    let op = fields::op_at(kind % kinds::OPS);
+    let mask = h[MASK];
+    let n = threads(g);
+    let d = fields::vd(w);
+    let a = fields::vs2(w);
+    match b {
+        Operand::Reg(r) => lanes::op_lanes(v, mask, n, op, d, a, Operand::Reg(r)),
+        Operand::Word(y) => lanes::op_lanes(v, mask, n, op, d, a, Operand::Word(y)),
+    }
+    running::next(h);
+    answer::DONE
+}
+
+// vmv.v, from any source.
+pub fn vmove(
+    h: &mut [u32; MOVING],
+    g: &[u32; FIXED],
+    x: &[u32; SCALARS],
+    v: &mut [u32],
+    w: u32,
+) -> u32
+    requires { ⌜ Lanes (now g) (now h) (now v) ⌝ }
+    ensures { λ c. ⌜ ((s d : List ℕ) → length s ≡ flatCount → Handles (execOf (Instr.VMove (vOf (fieldsOf w .rd)) (sourceIn (fieldsOf w)))) c (lists (now (g .entry)) (now (h .entry)) (now (x .entry)) s (now (v .entry)) d) (lists (now (g .entry)) (now (h .exit)) (now (x .entry)) s (now (v .exit)) d)) ⌝ }
+{
+    let b = operand(x, w);
+    lanes::move_lanes(v, h[MASK], threads(g), fields::vd(w), b);
+    running::next(h);
+    answer::DONE
+}
+
+// vmv.s.x, which acts as vmv.v.x.
+pub fn vmove_sx(
+    h: &mut [u32; MOVING],
+    g: &[u32; FIXED],
+    x: &[u32; SCALARS],
+    v: &mut [u32],
+    w: u32,
+) -> u32
+    requires { ⌜ Lanes (now g) (now h) (now v) ⌝ }
+    ensures { λ c. ⌜ ((s d : List ℕ) → length s ≡ flatCount → Handles (execOf (Instr.VMoveSX (vOf (fieldsOf w .rd)) (xOf (fieldsOf w .rs1)))) c (lists (now (g .entry)) (now (h .entry)) (now (x .entry)) s (now (v .entry)) d) (lists (now (g .entry)) (now (h .exit)) (now (x .entry)) s (now (v .exit)) d)) ⌝ }
+{
+    let y = first(x, w);
+    lanes::move_lanes(v, h[MASK], threads(g), fields::vd(w), Operand::Word(y));
+    running::next(h);
+    answer::DONE
+}
+
+pub fn vid(h: &mut [u32; MOVING], g: &[u32; FIXED], v: &mut [u32], w: u32) -> u32
+    requires { ⌜ Lanes (now g) (now h) (now v) ⌝ }
+    ensures { λ c. ⌜ ((x s d : List ℕ) → length s ≡ flatCount → Handles (execOf (Instr.Vid (vOf (fieldsOf w .rd)))) c (lists (now (g .entry)) (now (h .entry)) x s (now (v .entry)) d) (lists (now (g .entry)) (now (h .exit)) x s (now (v .exit)) d)) ⌝ }
+{
+    lanes::id_lanes(v, h[MASK], threads(g), fields::vd(w));
+    running::next(h);
+    answer::DONE
+}
+
+// vmv.x.s.
+pub fn vmove_xs(
+    h: &mut [u32; MOVING],
+    g: &[u32; FIXED],
+    x: &mut [u32; SCALARS],
+    v: &[u32],
+    w: u32,
+) -> u32
+    requires { ⌜ Lanes (now g) (now h) (now v) ⌝ }
+    ensures { λ c. ⌜ ((s d : List ℕ) → length s ≡ flatCount → Handles (execOf (Instr.VMoveXS (xOf (fieldsOf w .rd)) (vOf (fieldsOf w .rs2)))) c (lists (now (g .entry)) (now (h .entry)) (now (x .entry)) s (now (v .entry)) d) (lists (now (g .entry)) (now (h .exit)) (now (x .exit)) s (now (v .entry)) d)) ⌝ }
+{
+    let held = lanes::uniform(v, h[MASK], threads(g), fields::vs2(w));
+    if held.uniform {
+        return gives(held.value, h, x, w);
+    }
+    answer::DIFFERING
+}
+
+pub fn vbranch(
+    h: &mut [u32; MOVING],
+    g: &[u32; FIXED],
+    s: &mut [u32; FLAT],
+    v: &[u32],
+    w: u32,
+) -> u32
+    requires { ⌜ Lanes (now g) (now h) (now v) × (length (now s) ≡ flatCount) × (depthIn (now h) + ones (maskIn (now h)) ≤ maxThreads) ⌝ }
+    ensures { λ c. ⌜ ((x d : List ℕ) → Handles (execOf (Instr.VBranch (condOf (fieldsOf w)) (vOf (fieldsOf w .rs1)) (vOf (fieldsOf w .rs2)) (immB (fieldsOf w)))) c (lists (now (g .entry)) (now (h .entry)) x (now (s .entry)) (now (v .entry)) d) (lists (now (g .entry)) (now (h .exit)) x (now (s .exit)) (now (v .entry)) d)) ⌝ }
+{
+    let e = lanes::else_mask(
+        v,
+        h[MASK],
+        threads(g),
+        fields::cond(w),
+        fields::vs1(w),
+        fields::vs2(w),
+    );
+    let p = offset(h, 13, fields::imm_b(w) as u32);
+    if (e != 0) & (p % 4 != 0) {
+        return answer::BAD_TARGET;
+    }
+    running::part(h, s, e, p);
+    answer::DONE
+}
+
+// ---- lane accesses, plain or private; h is not lent, since these stay functions of their own
+
+pub fn vload(
+    space: Space,
+    off: u16,
+    mask: u32,
+    g: &[u32; FIXED],
+    v: &mut [u32],
+    d: &[u8],
+    w: u32,
+) -> bool
+    requires { ⌜ LanesAt mask (now g) (now v) × MemoryOk (memory (fixedIn (now g) .dataBase) (now d)) × (off < offsetLimit space) ⌝ }
+    ensures { λ t. ⌜ LaneLoad t space off mask w (now (g .entry)) (now (v .entry)) (now (d .entry)) (now (v .exit)) ⌝ }
+{
+    let n = threads(g);
+    let o = lane_memory::addresses(space, private(g), v, fields::vs1(w), off, n);
+    lane_memory::load_lanes(
+        v,
+        mask,
+        n,
+        fields::load_op(w),
+        d,
+        g[DATABASE],
+        &o,
+        fields::vd(w),
+    )
+}
+
+pub fn vstore(
+    space: Space,
+    off: u16,
+    mask: u32,
+    g: &[u32; FIXED],
+    v: &[u32],
+    d: &mut [u8],
+    w: u32,
+) -> bool
+    requires { ⌜ LanesAt mask (now g) (now v) × MemoryOk (memory (fixedIn (now g) .dataBase) (now d)) × (off < offsetLimit space) ⌝ }
+    ensures { λ t. ⌜ LaneStore t space off mask w (now (g .entry)) (now (v .entry)) (now (d .entry)) (now (d .exit)) ⌝ }
+{
+    let n = threads(g);
+    let o = lane_memory::addresses(space, private(g), v, fields::vs1(w), off, n);
+    lane_memory::store_lanes(
+        v,
+        mask,
+        n,
+        fields::lane_store_op(w),
+        d,
+        g[DATABASE],
+        &o,
+        fields::vs2(w),
+    )
+}
+
+// On, where every access lay inside.
+pub fn on_if(inside: bool, h: &mut [u32; MOVING]) -> u32
+    ensures { λ c. ⌜ (c ≡ cond inside 0 9) × (now (h .exit) ≡ cond inside (nextIn (now (h .entry))) (now (h .entry))) ⌝ }
+{
+    if inside {
+        running::next(h);
+        return answer::DONE;
+    }
+    answer::OUTSIDE
+}

@@ -1,0 +1,4 @@
+pub mod Lists
+pub mod Splits
+pub mod Words
+pub mod Copies

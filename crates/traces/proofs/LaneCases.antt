@@ -1,0 +1,163 @@
+-- The promises on lanes at steps that are taken, by lanes 0 and 2 of 4.
+use Prim.Native.Nat.{ℕ, zero, suc, _+_, _*_, _≤_, _<_}
+use mathlib.Core.Path.{_≡_, refl, sym}
+use mathlib.Core.Bool.{true, false, true≢false}
+use mathlib.Core.List.{List, [], _∷_}
+use native.Mathlib.Omega.{arith}
+use lib.Dec.{lit≤}
+use lib.ListN.{getD, length-set, replicate, set}
+use lib.Seq.{getD-set-other}
+use borrow.Author.Tests.{eqb-false, not-true}
+use Rattle.isa.specs.Fields.{x}
+use Rattle.isa.specs.declared.Space.the-variants.{Plain}
+use Rattle.isa.specs.declared.StoreOp.the-variants as S
+use Rattle.isa.specs.declared.VReg.{VReg}
+use Rattle.lanes.specs.declared.Lane.{Lane}
+use Rattle.lanes.specs.Mask.{lane}
+use Rattle.lanes.specs.Lanes.{lanesMax, fileWords, slotOf, laneOf, writeLanes, valueOf}
+use Rattle.warp.specs.WellFormed.{wellFormedOf}
+use Rattle.definition.specs.State.{State, state, active, laneAt, instrAt}
+use Rattle.definition.specs.Refuse.{mixed}
+use Rattle.definition.specs.Step.{stepOf}
+use Rattle.definition.specs.Calls.{launchedOf}
+use Rattle.definition.proofs.Computes.{computes}
+use Rattle.traces.specs.Bound.{launchOn}
+use Rattle.promises.specs.Lanes.{isActive, Has, SameLane, Agree, allBut, withFile, Alike, Touches}
+use Rattle.promises.specs.Lanes as L
+use Rattle.promises.specs.Written.{Becomes, LaneLeft}
+use Rattle.promises.proofs.Stores.{active-below}
+use Rattle.promises.proofs.Written.{written, lane-words, one-value, move-shares}
+use Rattle.promises.proofs.Lanes.{active-mask, kept, unwritten, all-but, unseen, unfelt, lane-alone}
+
+abbrev vreg : ℕ → VReg
+vreg r = record { 0 = r }
+
+-- VSB12 v2, 0(v1); VID.V v3; VMV.V.V v3, v1
+abbrev storing : List ℕ
+storing = 0x0020f07b ∷ []
+
+abbrev numbering : List ℕ
+numbering = 0x5208a1d7 ∷ []
+
+abbrev moving : List ℕ
+moving = 0x5e0081d7 ∷ []
+
+-- 4 lanes, of which 0 and 2 were launched; v1 = 0, 2, 4, 6, v2 all 7; 8 bytes of data
+unfoldable start : State
+start =
+    state (launchedOf (launchOn 4 0b0101)) (writeLanes 4 (λ l. true) (vreg 2) (λ l. 7) (writeLanes 4 (λ l. true) (vreg 1) (λ l. 2 * l .0) (replicate fileWords 0)))
+    (replicate 8 0)
+
+-- v1's word in lane h changed to x
+abbrev changed : Lane → ℕ → List ℕ
+changed h x = set (start .vector) (slotOf (vreg 1) h) x
+
+elsewhere : (h : Lane) (x : ℕ) → h .0 < lanesMax → Agree (allBut h) (start .vector) (changed h x)
+elsewhere h x b = (
+  sym (length-set (start .vector) (slotOf (vreg 1) h) x),
+  λ l c t r. sym (getD-set-other (start .vector) (slotOf (vreg 1) h) (slotOf r l) x 0 (λ e. eqb-false (l .0) (h .0) (not-true _ t) (omega arith))),
+)
+
+-- active-mask: the warp is well formed
+formed : wellFormedOf (start .warp) ≡ true
+unfolding computes start
+formed = refl
+
+in-mask : (l : Lane) → isActive start l ≡ active start l
+in-mask = active-mask start formed
+
+-- kept: VID.V writes lane 2; lane 1 is not active, nor is lane 4, which the warp does not have
+numbered : laneOf (stepOf numbering start .left .vector) (vreg 3) (lane 2) ≡ 2
+unfolding computes start
+numbered = refl
+
+idle : isActive start (lane 1) ≡ false
+unfolding computes start
+idle = refl
+
+idle-kept : SameLane (lane 1) (stepOf numbering start .left .vector) (start .vector)
+idle-kept = kept numbering start (lane 1) (lit≤ tt) idle
+
+beyond-kept : SameLane (lane 4) (stepOf numbering start .left .vector) (start .vector)
+unfolding start
+beyond-kept = kept numbering start (lane 4) (lit≤ tt) refl
+
+-- unwritten: VSB12 stores for lanes 0 and 2; byte 2, at lane 1's address, stays
+stored : stepOf storing start .left .bytes ≡ 7 ∷ 0 ∷ 0 ∷ 0 ∷ 7 ∷ 0 ∷ 0 ∷ 0 ∷ []
+unfolding computes start
+stored = refl
+
+touched : Touches start 4 (instrAt storing start)
+unfolding computes start
+touched = L.lane Plain S.B (vreg 1) (vreg 2) 0 (lane 2) refl (lit≤ tt, lit≤ tt)
+
+not-two : (l : ℕ) → isActive start (lane l) ≡ true → Has 1 (laneAt Plain (vreg 1) 0 start (lane l)) 2 → ⊥
+unfolding computes start
+not-two zero a h = let b : 2 < 1 = h .1 in omega arith
+not-two (suc zero) a h = true≢false (sym a)
+not-two (suc (suc zero)) a h = let b : 4 ≤ 2 = h .0 in omega arith
+not-two (suc (suc (suc zero))) a h = true≢false (sym a)
+not-two (suc (suc (suc (suc l)))) a h = omega (arith, active-below start (lane (suc (suc (suc (suc l))))) a .0)
+
+untouched : Touches start 2 (instrAt storing start) → ⊥
+unfolding computes start
+untouched (L.lane s k x y n l a h) = not-two (l .0) a h
+
+stays : getD (stepOf storing start .left .bytes) 2 0 ≡ 0
+unfolding start
+stays = unwritten storing start .1 2 untouched
+
+-- written: all four lanes at address 0, with the words 10 to 13. Lane 2, the highest active one, wins: not lane 0, and not lane 3, which is not active
+unfoldable together : State
+together =
+    state (launchedOf (launchOn 4 0b0101)) (writeLanes 4 (λ l. true) (vreg 2) (λ l. 10 + l .0) (replicate fileWords 0)) (replicate 8 0)
+
+highest : getD (stepOf storing together .left .bytes) 0 0 ≡ 12
+unfolding computes together
+highest = refl
+
+accepted : stepOf storing together .code ≡ 0
+unfolding computes together
+accepted = refl
+
+byte-of : Becomes together 0 0 12 (instrAt storing together)
+unfolding computes together
+byte-of = written storing together accepted 0
+
+-- lane-words: VID.V gives lane 2 of v3 its number, and v1 keeps its word there
+two-left : LaneLeft start (instrAt numbering start) (lane 2) (stepOf numbering start .left .vector)
+unfolding computes start
+two-left = lane-words numbering start refl (lane 2) refl
+
+-- one-value: the active lanes of v2 hold 7
+shared : mixed (laneOf (start .vector) (vreg 2)) start ≡ false
+unfolding computes start
+shared = refl
+
+seven : valueOf 4 (active start) (laneOf (start .vector) (vreg 2)) ≡ 7
+unfolding computes start
+seven = one-value start (laneOf (start .vector) (vreg 2)) .value shared (lane 2) refl
+
+-- move-shares: VMV.X.S x5, v2
+moved-seven : getD (stepOf (0x422022d7 ∷ []) start .left .warp .x) 5 0 ≡ 7
+unfolding computes start
+moved-seven = move-shares (0x422022d7 ∷ []) start (x 5) (vreg 2) refl .value refl (λ e. omega arith) (lit≤ tt) (lane 2) refl
+
+-- unseen, unfelt: lane 1's address outside the data
+unseen-there : Alike (isActive start) (stepOf storing start) (stepOf storing (withFile (changed (lane 1) 100) start))
+unseen-there = unseen storing start (changed (lane 1) 100) (elsewhere (lane 1) 100 (lit≤ tt) .0, λ l h a. elsewhere (lane 1) 100 (lit≤ tt) .1 l h (all-but start (lane 1) idle l a))
+
+unfelt-there : Alike (allBut (lane 1)) (stepOf storing start) (stepOf storing (withFile (changed (lane 1) 100) start))
+unfelt-there = unfelt storing start (changed (lane 1) 100) (lane 1) idle (elsewhere (lane 1) 100 (lit≤ tt))
+
+-- lane-alone: VMV.V.V moves another word in lane 2, and the same in lane 0
+answers : stepOf moving start .code ≡ stepOf moving (withFile (changed (lane 2) 100) start) .code
+unfolding computes start
+answers = refl
+
+moved : laneOf (stepOf moving (withFile (changed (lane 2) 100) start) .left .vector) (vreg 3) (lane 2) ≡ 100
+unfolding computes start
+moved = refl
+
+alone : SameLane (lane 0) (stepOf moving start .left .vector) (stepOf moving (withFile (changed (lane 2) 100) start) .left .vector)
+alone = lane-alone moving start (changed (lane 2) 100) (elsewhere (lane 2) 100 (lit≤ tt) .0) answers (lane 0) (lit≤ tt) (elsewhere (lane 2) 100 (lit≤ tt) .1 (lane 0) (lit≤ tt) refl)

@@ -1,0 +1,5 @@
+pub mod Bound
+pub mod Machine
+pub mod Trace
+pub mod Worked
+pub mod Duds

@@ -1,0 +1,116 @@
+-- Worked steps that are taken, beside the trace cards: stores of each size, loads of each kind, private accesses, divisions, CSRs read and written.
+use Prim.Native.Nat.{ℕ}
+use mathlib.Core.List.{List, [], _∷_, _++_}
+use lib.ListN.{getD, take, drop, replicate}
+use Rattle.warp.specs.declared.Launch.{Launch}
+use Rattle.warp.specs.declared.Warp.{Warp}
+use Rattle.definition.specs.State.{State, state, Outcome}
+use Rattle.definition.specs.Calls.{launchedOf, Ran}
+use Rattle.traces.specs.Machine.{Machine, ours}
+use Rattle.traces.specs.Trace.{Case, _gives_, file, Hold}
+
+-- warp 1 of 2 with 4 threads each, so that TID is 4; lanes 0, 2 and 3 launched; data memory and private memory at 0x1000
+abbrev launch : Launch
+launch =
+    record {
+      fixed =
+          record {
+            numt = 4;
+            numw = 2;
+            wid = 1;
+            launchMask = 0xD;
+            codeBase = 0x80000000;
+            dataBase = 0x1000;
+            knl = 0;
+            wgid = 0;
+            lds = 0;
+            pds = 0x1000;
+            gidx = 0;
+            gidy = 0;
+            gidz = 0;
+          };
+      entry = 0x80000000;
+    }
+
+-- 32 bytes of data: these, and 16 zeros, where the stores go
+abbrev low : List ℕ
+low = 0x7F ∷ 0x80 ∷ 0x81 ∷ 0xFF ∷ 0x11 ∷ 0x22 ∷ 0x33 ∷ 0x84 ∷ 0x91 ∷ 0x92 ∷ 0x93 ∷ 0x94 ∷ 0x95 ∷ 0x96 ∷ 0x97 ∷ 0x98 ∷ []
+
+abbrev start : List ℕ → List ℕ → State
+start v1 v2 = state (launchedOf launch) (file v1 v2) (low ++ replicate 16 0)
+
+module _ (M : Machine) where
+  -- a scalar word after lui x5, 1 and lw x6, 4(x5), which is 84332211
+  abbrev scalar : ℕ → Ran
+  scalar word = M .run (0x000012B7 ∷ 0x0042A303 ∷ word ∷ []) 3 (start (replicate 4 0) (replicate 4 0))
+
+  -- the answer, the count, PC, x7, RPC, PRINT
+  abbrev seen : ℕ → List ℕ
+  seen word =
+      let w : Warp = scalar word .ends .left .warp in
+      scalar word .ends .code ∷ scalar word .steps ∷ w .pc ∷ getD (w .x) 7 0 ∷ w .rpc ∷ w .print ∷ []
+
+  -- the answer, the data
+  abbrev kept : ℕ → List ℕ
+  kept word = scalar word .ends .code ∷ scalar word .ends .left .bytes
+
+  -- a lane word: the answer, PC, v2's four lanes
+  abbrev lanes : ℕ → List ℕ → List ℕ → List ℕ
+  lanes word v1 v2 =
+      let o : Outcome = M .step (word ∷ []) (start v1 v2) in
+      o .code ∷ o .left .warp .pc ∷ take 4 (drop 64 (o .left .vector))
+
+  -- a lane store of v2: the answer, PC, the data
+  abbrev stored : ℕ → List ℕ → List ℕ
+  stored word v1 =
+      let o : Outcome = M .step (word ∷ []) (start v1 (0xA1A2A3A4 ∷ 0xB1B2B3B4 ∷ 0xC1C2C3C4 ∷ 0xD1D2D3D4 ∷ [])) in
+      o .code ∷ o .left .warp .pc ∷ o .left .bytes
+
+  -- loads of v2 at v1 − 1: lane 1, whose address is outside, isn't active and keeps its 9
+  abbrev loaded : ℕ → List ℕ
+  loaded word = lanes word (0x1002 ∷ 0 ∷ 0x1001 ∷ 0x1005 ∷ []) (replicate 4 9)
+
+  -- divisions of v2 by v1: −7 by 2, 7 by 0, −2^31 by −1; lane 1 isn't active
+  abbrev divided : ℕ → List ℕ
+  divided word = lanes word (2 ∷ 1 ∷ 0 ∷ 0xFFFFFFFF ∷ []) (0xFFFFFFF9 ∷ 5 ∷ 7 ∷ 0x80000000 ∷ [])
+
+  abbrev pub worked : List Case
+  worked =
+      -- SB, SH, SW x6, 17(x5)
+      kept 0x006288A3 gives (0 ∷ (low ++ (0 ∷ 0x11 ∷ replicate 14 0)))
+      ∷ kept 0x006298A3 gives (0 ∷ (low ++ (0 ∷ 0x11 ∷ 0x22 ∷ replicate 13 0)))
+      ∷ kept 0x0062A8A3 gives (0 ∷ (low ++ (0 ∷ 0x11 ∷ 0x22 ∷ 0x33 ∷ 0x84 ∷ replicate 11 0)))
+      -- LB, LH, LW, LBU, LHU x7, 1(x5)
+      ∷ seen 0x00128383 gives (0 ∷ 3 ∷ 0x8000000C ∷ 0xFFFFFF80 ∷ 0 ∷ 0 ∷ [])
+      ∷ seen 0x00129383 gives (0 ∷ 3 ∷ 0x8000000C ∷ 0xFFFF8180 ∷ 0 ∷ 0 ∷ [])
+      ∷ seen 0x0012A383 gives (0 ∷ 3 ∷ 0x8000000C ∷ 0x11FF8180 ∷ 0 ∷ 0 ∷ [])
+      ∷ seen 0x0012C383 gives (0 ∷ 3 ∷ 0x8000000C ∷ 0x80 ∷ 0 ∷ 0 ∷ [])
+      ∷ seen 0x0012D383 gives (0 ∷ 3 ∷ 0x8000000C ∷ 0x8180 ∷ 0 ∷ 0 ∷ [])
+      -- DIV, REM x7, x6, x5; CSRRS x7, TID, x0; CSRRW x7, RPC, x6; CSRRSI x7, PRINT, 5
+      ∷ seen 0x025343B3 gives (0 ∷ 3 ∷ 0x8000000C ∷ 0xFFF84333 ∷ 0 ∷ 0 ∷ [])
+      ∷ seen 0x025363B3 gives (0 ∷ 3 ∷ 0x8000000C ∷ 0xFFFFF211 ∷ 0 ∷ 0 ∷ [])
+      ∷ seen 0x800023F3 gives (0 ∷ 3 ∷ 0x8000000C ∷ 4 ∷ 0 ∷ 0 ∷ [])
+      ∷ seen 0x80C313F3 gives (0 ∷ 3 ∷ 0x8000000C ∷ 0 ∷ 0x84332211 ∷ 0 ∷ [])
+      ∷ seen 0x80B2E3F3 gives (0 ∷ 3 ∷ 0x8000000C ∷ 0 ∷ 0 ∷ 5 ∷ [])
+      -- VLB12, VLH12, VLW12, VLBU12, VLHU12 v2, −1(v1)
+      ∷ loaded 0xFFF0817B gives (0 ∷ 0x80000004 ∷ 0xFFFFFF80 ∷ 9 ∷ 0x7F ∷ 0x11 ∷ [])
+      ∷ loaded 0xFFF0917B gives (0 ∷ 0x80000004 ∷ 0xFFFF8180 ∷ 9 ∷ 0xFFFF807F ∷ 0x2211 ∷ [])
+      ∷ loaded 0xFFF0A17B gives (0 ∷ 0x80000004 ∷ 0x11FF8180 ∷ 9 ∷ 0xFF81807F ∷ 0x84332211 ∷ [])
+      ∷ loaded 0xFFF0C17B gives (0 ∷ 0x80000004 ∷ 0x80 ∷ 9 ∷ 0x7F ∷ 0x11 ∷ [])
+      ∷ loaded 0xFFF0D17B gives (0 ∷ 0x80000004 ∷ 0x8180 ∷ 9 ∷ 0x807F ∷ 0x2211 ∷ [])
+      -- VSB12, VSH12, VSW12 v2, 16(v1): at 18, 17 and 21, the higher lane over the lower
+      ∷ stored 0x0020F87B (0x1002 ∷ 0 ∷ 0x1001 ∷ 0x1005 ∷ []) gives (0 ∷ 0x80000004 ∷ (low ++ (0 ∷ 0xC4 ∷ 0xA4 ∷ 0 ∷ 0 ∷ 0xD4 ∷ replicate 10 0)))
+      ∷ stored 0x0020B87B (0x1002 ∷ 0 ∷ 0x1001 ∷ 0x1005 ∷ []) gives (0 ∷ 0x80000004 ∷ (low ++ (0 ∷ 0xC4 ∷ 0xC3 ∷ 0xA3 ∷ 0 ∷ 0xD4 ∷ 0xD3 ∷ replicate 9 0)))
+      ∷ stored 0x0020E87B (0x1002 ∷ 0 ∷ 0x1001 ∷ 0x1005 ∷ []) gives (0 ∷ 0x80000004 ∷ (low ++ (0 ∷ 0xC4 ∷ 0xC3 ∷ 0xC2 ∷ 0xC1 ∷ 0xD4 ∷ 0xD3 ∷ 0xD2 ∷ 0xD1 ∷ replicate 7 0)))
+      -- the private byte load and store, −1(v1): (v1 − 1)·8 + 4 + lane from 0x1000
+      ∷ lanes 0x7FF0812B (2 ∷ 7 ∷ 1 ∷ 1 ∷ []) (replicate 4 9) gives (0 ∷ 0x80000004 ∷ 0xFFFFFF95 ∷ 9 ∷ 0x33 ∷ 0xFFFFFF84 ∷ [])
+      ∷ stored 0x7E20FFAB (3 ∷ 3 ∷ 3 ∷ 3 ∷ []) gives (0 ∷ 0x80000004 ∷ (low ++ (0 ∷ 0 ∷ 0 ∷ 0 ∷ 0xA4 ∷ 0 ∷ 0xC4 ∷ 0xD4 ∷ replicate 8 0)))
+      -- vdiv.vv and vrem.vv v2, v2, v1
+      ∷ divided 0x8620A157 gives (0 ∷ 0x80000004 ∷ 0xFFFFFFFD ∷ 5 ∷ 0xFFFFFFFF ∷ 0x80000000 ∷ [])
+      ∷ divided 0x8E20A157 gives (0 ∷ 0x80000004 ∷ 0xFFFFFFFF ∷ 5 ∷ 7 ∷ 0 ∷ [])
+      ∷ []
+
+-- ---- the promise
+
+abbrev pub WorkedSteps : Type 0
+WorkedSteps = Hold (worked ours)
