@@ -1,10 +1,8 @@
 // The machine's calls for C and Rust, over numbers and slices: a warp is a state of 207 words.
 use drive::Drove;
 use layout::FIXED;
-use layout::FIXED_START;
 use layout::FLAT;
 use layout::MOVING;
-use layout::MOVING_START;
 use layout::SCALARS;
 use layout::STATE_WORDS;
 ghost use mathlib.Core.Path.{_≡_};
@@ -64,13 +62,10 @@ fn run_state(
     ensures { λ r. ⌜ runCalled (called (r .code) (now (state .exit)) (now (vector .exit)) (now (bytes .exit))) (r .steps ∷ []) ≡ runCallOf (now (state .entry)) (now (kernel .entry)) budget (now (vector .entry)) (now (bytes .entry)) (0 ∷ []) ⌝ }
 {
     let mut x = [0u32; SCALARS];
-    layout::copy(state, 0, &mut x, 0, SCALARS);
     let mut s = [0u32; FLAT];
-    layout::copy(state, SCALARS, &mut s, 0, FLAT);
     let mut h = [0u32; MOVING];
-    layout::copy(state, MOVING_START, &mut h, 0, MOVING);
     let mut g = [0u32; FIXED];
-    layout::copy(state, FIXED_START, &mut g, 0, FIXED);
+    layout::get(state, &mut h, &mut g, &mut x, &mut s);
     let end = drive::run_words(&mut h, &g, &mut x, &mut s, kernel, vector, bytes, budget);
     layout::put(&h, &g, &x, &s, state);
     end

@@ -4,7 +4,7 @@ use mathlib.Core.Path.{_≡_, refl, sym, _∙_, ap}
 use mathlib.Core.List.{List, [], _++_, append-nil}
 use native.Mathlib.Numerals.{add-one}
 use native.Mathlib.Omega.{arith}
-use lib.ListN.{length, getD, take, drop, set, replicate, length-drop, length-replicate, drop-of-length-le}
+use lib.ListN.{length, getD, take, drop, set, length-drop, drop-of-length-le}
 use lib.Seq.{paste, paste-suc, length-paste, getD-drop, take-all, take-paste}
 use Rattle.warp.specs.Warp.{scalarCount}
 use Rattle.layout.specs.Words.{flatCount, movingCount, fixedCount, movingStart, fixedStart, stateWords}
@@ -13,11 +13,9 @@ pub copy-turn : (d s to : List ℕ) (a b i : ℕ) → to ≡ paste d b (drop a s
     → set to (b + i) (getD s (a + i) 0) ≡ paste d b (drop a s) (i + 1)
 copy-turn d s to a b i e hs hd = rw (e, ← getD-drop a s i 0, add-one) (paste-suc d b (drop a s) i 0 hd (simp length-drop (omega arith)))
 
--- words copied into an array of zeros
-pub copied : (s : List ℕ) (n : ℕ) → paste (replicate n 0) 0 s n ≡ take n s
-copied s n =
-    let z : List ℕ = replicate n 0 in
-    let l : length z ≡ n = length-replicate n 0 in
+-- words copied over all of a list
+pub copied : (z s : List ℕ) (n : ℕ) → length z ≡ n → paste z 0 s n ≡ take n s
+copied z s n l =
     let o : length z ≤ 0 + n = omega arith in
     rw (drop-of-length-le z o) (append-nil (take n s))
 

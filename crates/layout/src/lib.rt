@@ -11,7 +11,7 @@ ghost use lib.ListN.{length, drop};
 ghost use lib.Seq.{paste};
 ghost use Rattle.warp.specs.Warp.{splitCount};
 ghost use Rattle.word.specs.Word.{flagOf};
-ghost use Rattle.layout.specs.Words.{stateWords, fixedIn, splitAt, splitsIn, warpOf, splitsWords, movingWords, fixedWords};
+ghost use Rattle.layout.specs.Words.{stateWords, fixedIn, splitAt, splitsIn, warpOf, splitsWords, movingWords, fixedWords, scalarPart, splitPart, movingPart, fixedPart};
 ghost use Rattle.layout.specs.Lent.{putSplit};
 
 // How many words: the scalar registers, the split records, what moves, what a launch fixed.
@@ -230,7 +230,7 @@ pub fn together(h: &[u32; MOVING], g: &[u32; FIXED], x: [u32; SCALARS], s: &[u32
 // ---- a state's words
 
 // n words of `from`, from a on, put into `to` from b on.
-pub fn copy(from: &[u32], a: usize, to: &mut [u32], b: usize, n: usize)
+fn copy(from: &[u32], a: usize, to: &mut [u32], b: usize, n: usize)
     requires { ⌜ (a + n ≤ length (now from)) × (b + n ≤ length (now to)) ⌝ }
     ensures { λ _. ⌜ now (to .exit) ≡ paste (now (to .entry)) b (drop a (now (from .entry))) n ⌝ }
 {
@@ -239,6 +239,23 @@ pub fn copy(from: &[u32], a: usize, to: &mut [u32], b: usize, n: usize)
         to[b + i] = from[a + i];
         i = i + 1;
     }
+}
+
+// The words of a state, part by part.
+pub fn get(
+    state: &[u32],
+    h: &mut [u32; MOVING],
+    g: &mut [u32; FIXED],
+    x: &mut [u32; SCALARS],
+    s: &mut [u32; FLAT],
+)
+    requires { ⌜ length (now state) ≡ stateWords ⌝ }
+    ensures { λ _. ⌜ (now (h .exit) ≡ movingPart (now (state .entry))) × (now (g .exit) ≡ fixedPart (now (state .entry))) × (now (x .exit) ≡ scalarPart (now (state .entry))) × (now (s .exit) ≡ splitPart (now (state .entry))) ⌝ }
+{
+    copy(state, 0, x, 0, SCALARS);
+    copy(state, SCALARS, s, 0, FLAT);
+    copy(state, MOVING_START, h, 0, MOVING);
+    copy(state, FIXED_START, g, 0, FIXED);
 }
 
 // The words of a warp put one part after another.

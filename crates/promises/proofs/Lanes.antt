@@ -32,7 +32,7 @@ use Rattle.definition.proofs.Target.{step-within}
 use Rattle.promises.specs.Lanes.{isActive, SameLane, Agree, allBut, withFile, Alike, ActiveMask, Kept, Unwritten, Unseen, Unfelt, LaneAlone}
 use Rattle.promises.proofs.Refusals.{is-zero, step-table, step-keeps}
 use Rattle.promises.proofs.Stores.{active-of, becomes-stays}
-use Rattle.promises.proofs.Twins.{Same, Twin, moves, gives, stores-both, seen}
+use Rattle.promises.proofs.Twins.{Same, Twin, moves, gives, stores-both, compared}
 use Rattle.promises.proofs.Written.{fixed-of, written}
 
 -- ---- active lanes
@@ -82,7 +82,7 @@ kept-by m u i a b n l h o (stores-both t e) r = refl
 pub kept : Kept
 kept k m l h o =
     by-step k m (λ n. SameLane l (n .vector) (m .vector)) (λ r. refl)
-    (λ z. kept-by m (m .vector) _ _ _ (fixed-of (m .warp) (step-clear k m z .formed) .lanes .1) l h o (seen m (m .vector) (instrAt k m) .twin))
+    (λ z. kept-by m (m .vector) _ _ _ (fixed-of (m .warp) (step-clear k m z .formed) .lanes .1) l h o (compared m (m .vector) (instrAt k m) .twin))
 
 pub unwritten : Unwritten
 unwritten k m = (
@@ -127,7 +127,7 @@ module _ (k : List ℕ) (m : State) (u : List ℕ) (long : length (m .vector) �
         runs = sizes-kept (fixedOf m) k u (m .bytes) (m .vector) (m .bytes) long refl
 
         by-formed : (t : Bool) → wellFormedOf (m .warp) ≡ t → first (testsOf k m) ≡ first (testsOf k (withFile u m))
-        by-formed true f = rw runs (ap (λ (rs : List (Row Bool)). first (stepTests k (withFile u m) ++ rs)) (seen m u (instrAt k m) .rows (same f)))
+        by-formed true f = rw runs (ap (λ (rs : List (Row Bool)). first (stepTests k (withFile u m) ++ rs)) (compared m u (instrAt k m) .rows (same f)))
         by-formed false f = rw (runs, f)
 
     equal : (i : Instr) (a b : Effect) → Same m u → Twin m u i a b → (effect a m .warp ≡ effect b (withFile u m) .warp) × (effect a m .bytes ≡ effect b (withFile u m) .bytes)
@@ -138,10 +138,10 @@ module _ (k : List ℕ) (m : State) (u : List ℕ) (long : length (m .vector) �
     left-same : (stepOf k m .left .warp ≡ stepOf k (withFile u m) .left .warp) × (stepOf k m .left .bytes ≡ stepOf k (withFile u m) .left .bytes)
     left-same =
         by-both k m u (λ n o. (n .warp ≡ o .warp) × (n .bytes ≡ o .bytes)) code-same (refl, refl)
-        (λ z. equal _ _ _ (same (step-clear k m z .formed)) (seen m u (instrAt k m) .twin))
+        (λ z. equal _ _ _ (same (step-clear k m z .formed)) (compared m u (instrAt k m) .twin))
 
 pub lane-alone : LaneAlone
-lane-alone k m u long c l h s = by-both k m u (λ n o. SameLane l (n .vector) (o .vector)) c s (λ z. alone k m u long _ _ _ z l h s (seen m u (instrAt k m) .twin))
+lane-alone k m u long c l h s = by-both k m u (λ n o. SameLane l (n .vector) (o .vector)) c s (λ z. alone k m u long _ _ _ z l h s (compared m u (instrAt k m) .twin))
 
 -- a set of lanes with all active ones: where the files agree on it, the outcomes are alike on it
 alike : (k : List ℕ) (m : State) (u : List ℕ) (on : Lane → Bool) → ((l : Lane) → isActive m l ≡ true → on l ≡ true) → Agree on (m .vector) u → Alike on (stepOf k m) (stepOf k (withFile u m))

@@ -7,4 +7,3 @@ pub mod Twins
 pub mod Written
 pub mod Lanes
 pub mod Determined
-pub mod Calls

@@ -47,15 +47,15 @@ module _ (m : State) (u : List ℕ) where
     stores-both : {d e : List ℕ} → EffectLeaves i d → (Same → d ≡ e) → Twin i (stores d) (stores e)
 
   -- and its rows
-  pub record Seen (i : Instr) (rs us : List (Row Bool)) (a b : Effect) : Type 0 where
+  pub record Compared (i : Instr) (rs us : List (Row Bool)) (a b : Effect) : Type 0 where
     pub rows : Same → rs ≡ us
     pub twin : Twin i a b
 
   -- an instruction that looks at no vector register; one with no row that writes lanes
-  idle : {i : Instr} {rs : List (Row Bool)} {a : Warp} → Seen i rs rs (goes a) (goes a)
+  idle : {i : Instr} {rs : List (Row Bool)} {a : Warp} → Compared i rs rs (goes a) (goes a)
   idle = record { rows = λ s. refl; twin = moves (λ s. refl) }
 
-  fills : {i : Instr} {r : VReg} {f g : Lane → ℕ} → ((l : Lane) → Gives m l i r (f l)) → ((l : Lane) → SameLane l (m .vector) u → f l ≡ g l) → Seen i [] [] (writes (active m) r f) (writes (active m) r g)
+  fills : {i : Instr} {r : VReg} {f g : Lane → ℕ} → ((l : Lane) → Gives m l i r (f l)) → ((l : Lane) → SameLane l (m .vector) u → f l ≡ g l) → Compared i [] [] (writes (active m) r f) (writes (active m) r g)
   fills w o = record { rows = λ s. refl; twin = gives w o }
 
   -- a scalar register or an immediate is the same with any file
@@ -77,46 +77,46 @@ module _ (m : State) (u : List ℕ) where
   abbrev nine : Bool → List (Row Bool)
   nine t = 9 ⇒ not t ∷ []
 
-  pub seen : (i : Instr) → Seen i (refusalsOf i m) (refusalsOf i (withFile u m)) (effectOf i m) (effectOf i (withFile u m))
+  pub compared : (i : Instr) → Compared i (refusalsOf i m) (refusalsOf i (withFile u m)) (effectOf i m) (effectOf i (withFile u m))
   unfolding refusalsOf effectOf
-  seen I.Refused = idle
-  seen (I.Lui r n) = idle
-  seen (I.Auipc r n) = idle
-  seen (I.Jal r n) = idle
-  seen (I.Jalr r a n) = idle
-  seen (I.Branch c a b n) = idle
-  seen (I.Load k r a n) = idle
-  seen (I.Store k a b n) =
+  compared I.Refused = idle
+  compared (I.Lui r n) = idle
+  compared (I.Auipc r n) = idle
+  compared (I.Jal r n) = idle
+  compared (I.Jalr r a n) = idle
+  compared (I.Branch c a b n) = idle
+  compared (I.Load k r a n) = idle
+  compared (I.Store k a b n) =
       record {
         rows = λ s. refl;
         twin = stores-both (λ h j. scalar-becomes m j k a b n h) (λ s. refl);
       }
-  seen (I.OpImm o r a n) = idle
-  seen (I.OpReg o r a b) = idle
-  seen (I.Fence r a n) = idle
-  seen (I.Csr o r a n) = idle
-  seen (I.CsrImm o r i n) = idle
-  seen (I.Vector o a) = fills (λ l. operation o a) (λ l s. lane-only l (m .vector) u s o (a .vs2) (sourceOf (immediateOf o) (a .src) m) ∙ ap (λ (b : Operand). opLane o u (a .vs2) b l) (source-same (immediateOf o) (a .src)))
-  seen (I.VMove r e) = fills (λ l. move r e) (λ l s. operand-only l (m .vector) u s (sourceOf (extendOf 5) e m) ∙ ap (λ (b : Operand). operandOf u b l) (source-same (extendOf 5) e))
-  seen (I.VMoveXS r b) =
+  compared (I.OpImm o r a n) = idle
+  compared (I.OpReg o r a b) = idle
+  compared (I.Fence r a n) = idle
+  compared (I.Csr o r a n) = idle
+  compared (I.CsrImm o r i n) = idle
+  compared (I.Vector o a) = fills (λ l. operation o a) (λ l s. lane-only l (m .vector) u s o (a .vs2) (sourceOf (immediateOf o) (a .src) m) ∙ ap (λ (b : Operand). opLane o u (a .vs2) b l) (source-same (immediateOf o) (a .src)))
+  compared (I.VMove r e) = fills (λ l. move r e) (λ l s. operand-only l (m .vector) u s (sourceOf (extendOf 5) e m) ∙ ap (λ (b : Operand). operandOf u b l) (source-same (extendOf 5) e))
+  compared (I.VMoveXS r b) =
       record {
         rows = λ s. ap (λ (t : Bool). 10 ⇒ not t ∷ []) (uniform-only (fixedOf m .numt) (active m) (laneOf (m .vector) b) (laneOf u b) (λ l h t. s l h t b));
         twin = moves (λ s. ap (λ (y : ℕ). next (writeX r y (m .warp))) (value-only (fixedOf m .numt) (active m) (laneOf (m .vector) b) (laneOf u b) (λ l h t. s l h t b)));
       }
-  seen (I.VMoveSX r a) = fills (λ l. scalar r a) (λ l s. refl)
-  seen (I.Vid r) = fills (λ l. number r) (λ l s. refl)
-  seen (I.VBranch c a b n) =
+  compared (I.VMoveSX r a) = fills (λ l. scalar r a) (λ l s. refl)
+  compared (I.Vid r) = fills (λ l. number r) (λ l s. refl)
+  compared (I.VBranch c a b n) =
       let e : Same → elseOf c a b m ≡ elseOf c a b (withFile u m) = λ s. wants-only (m .warp .mask) (fixedOf m .numt) c a b (m .vector) u s in
       record {
         rows = λ s. ap (λ (x : ℕ). 8 ⇒ (not (eqb x 0) && astray (pcBy 13 n m)) ∷ []) (e s);
         twin = moves (λ s. ap (λ (x : ℕ). parted x (pcBy 13 n m) (m .warp)) (e s));
       }
-  seen I.Join = idle
-  seen (I.SetRpc r a n) = idle
-  seen I.EndPrg = idle
-  seen (I.Barrier n) = idle
-  seen (I.VLoad e k r a n) = record { rows = λ s. ap nine (inside-same e a n (sizeOf k) s); twin = gives (λ l. load e k r a n) (λ l s. ap (λ (x : ℕ). loaded k x m) (at-same e a n l s)) }
-  seen (I.VStore e k a b n) =
+  compared I.Join = idle
+  compared (I.SetRpc r a n) = idle
+  compared I.EndPrg = idle
+  compared (I.Barrier n) = idle
+  compared (I.VLoad e k r a n) = record { rows = λ s. ap nine (inside-same e a n (sizeOf k) s); twin = gives (λ l. load e k r a n) (λ l s. ap (λ (x : ℕ). loaded k x m) (at-same e a n l s)) }
+  compared (I.VStore e k a b n) =
       record {
         rows = λ s. ap nine (inside-same e a n (widthOf k) s);
         twin = stores-both

@@ -33,7 +33,7 @@ use Rattle.promises.specs.Lanes.{isActive, Touches, scalar, lane}
 use Rattle.promises.specs.Written as W
 use Rattle.promises.specs.Written.{Becomes, stays, Gives, Written, LaneWords, OneValue, MoveShares}
 use Rattle.promises.proofs.Stores.{active-of, active-below}
-use Rattle.promises.proofs.Twins.{Twin, moves, gives, stores-both, seen}
+use Rattle.promises.proofs.Twins.{Twin, moves, gives, stores-both, compared}
 
 -- ---- each byte
 
@@ -56,7 +56,7 @@ written-by m u i a b q z (stores-both t e) j = t z j
 pub written : Written
 written k m z j =
     subst (λ (n : State). Becomes m (memoryOf m .base + j) (getD (m .bytes) j 0) (getD (n .bytes) j 0) (instrAt k m)) (sym (step-taken k m z))
-    (written-by m (m .vector) _ _ _ refl (step-clear k m z .rest) (seen m (m .vector) (instrAt k m) .twin) j)
+    (written-by m (m .vector) _ _ _ refl (step-clear k m z .rest) (compared m (m .vector) (instrAt k m) .twin) j)
 
 -- ---- an active lane's words
 
@@ -86,7 +86,7 @@ others-by m u i a b n l h (gives {r = c} {f = f} w e) r o =
 others-by m u i a b n l h (stores-both t e) r o = refl
 
 pub lane-words : LaneWords
-lane-words k m z l a = record { given = given; others = λ r o. rw (step-taken k m z) (others-by m (m .vector) _ _ _ lanes l below (seen m (m .vector) (instrAt k m) .twin) r o) }
+lane-words k m z l a = record { given = given; others = λ r o. rw (step-taken k m z) (others-by m (m .vector) _ _ _ lanes l below (compared m (m .vector) (instrAt k m) .twin) r o) }
   where
     lanes : fixedOf m .numt ≤ lanesMax
     lanes = fixed-of (m .warp) (step-clear k m z .formed) .lanes .1

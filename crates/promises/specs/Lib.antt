@@ -5,4 +5,3 @@ pub mod Written
 pub mod Runs
 pub mod Refusals
 pub mod Determined
-pub mod Calls

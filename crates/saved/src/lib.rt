@@ -4,10 +4,8 @@ use answer::Refusal;
 use layout::DEPTH;
 use layout::ENDED;
 use layout::FIXED;
-use layout::FIXED_START;
 use layout::FLAT;
 use layout::MOVING;
-use layout::MOVING_START;
 use layout::PHASE;
 use layout::SCALARS;
 use layout::SPLIT;
@@ -87,13 +85,10 @@ pub fn restore(state: &[u32]) -> ReadState
         return refused(Refusal::Size);
     }
     let mut x = [0u32; SCALARS];
-    layout::copy(state, 0, &mut x, 0, SCALARS);
     let mut s = [0u32; FLAT];
-    layout::copy(state, SCALARS, &mut s, 0, FLAT);
     let mut h = [0u32; MOVING];
-    layout::copy(state, MOVING_START, &mut h, 0, MOVING);
     let mut g = [0u32; FIXED];
-    layout::copy(state, FIXED_START, &mut g, 0, FIXED);
+    layout::get(state, &mut h, &mut g, &mut x, &mut s);
     if !sound(&h, &s) {
         return refused(Refusal::Malformed);
     }

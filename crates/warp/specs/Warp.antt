@@ -73,23 +73,24 @@ zeroWarp =
       fixed = zeroFixed;
     }
 
--- ---- setters: the warp with one thing anew; every definition goes through these
+-- ---- setters, by what changes together: every definition goes through these
+
+-- registers, PC, RPC and PRINT
+abbrev pub withScalars : List ℕ → ℕ → ℕ → ℕ → Warp → Warp
+withScalars x pc rpc print w =
+    record { x = x; splits = w .splits; depth = w .depth; pc = pc; mask = w .mask; rpc = rpc; print = print; ended = w .ended; waiting = w .waiting; fixed = w .fixed }
 
 abbrev pub withX : List ℕ → Warp → Warp
-withX x w =
-    record { x = x; splits = w .splits; depth = w .depth; pc = w .pc; mask = w .mask; rpc = w .rpc; print = w .print; ended = w .ended; waiting = w .waiting; fixed = w .fixed }
+withX x w = withScalars x (w .pc) (w .rpc) (w .print) w
 
 abbrev pub withPc : ℕ → Warp → Warp
-withPc p w =
-    record { x = w .x; splits = w .splits; depth = w .depth; pc = p; mask = w .mask; rpc = w .rpc; print = w .print; ended = w .ended; waiting = w .waiting; fixed = w .fixed }
+withPc p w = withScalars (w .x) p (w .rpc) (w .print) w
 
 abbrev pub withRpc : ℕ → Warp → Warp
-withRpc r w =
-    record { x = w .x; splits = w .splits; depth = w .depth; pc = w .pc; mask = w .mask; rpc = r; print = w .print; ended = w .ended; waiting = w .waiting; fixed = w .fixed }
+withRpc r w = withScalars (w .x) (w .pc) r (w .print) w
 
 abbrev pub withPrint : ℕ → Warp → Warp
-withPrint p w =
-    record { x = w .x; splits = w .splits; depth = w .depth; pc = w .pc; mask = w .mask; rpc = w .rpc; print = p; ended = w .ended; waiting = w .waiting; fixed = w .fixed }
+withPrint p w = withScalars (w .x) (w .pc) (w .rpc) p w
 
 -- ended and waiting
 abbrev pub withStop : Bool → Bool → Warp → Warp

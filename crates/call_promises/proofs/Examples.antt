@@ -1,4 +1,4 @@
--- The hypotheses of Calls.antt are met, by computing: ENDPRG alone, 4 lanes, base 80000000.
+-- The hypotheses of StateCalls.antt are met, by computing: ENDPRG alone, 4 lanes, base 80000000.
 use Prim.Native.Nat.{ℕ}
 use mathlib.Core.Path.{_≡_, refl}
 use mathlib.Core.List.{List, [], _∷_}
@@ -10,8 +10,8 @@ use Rattle.definition.specs.Refuse.{runsOkOf}
 use Rattle.definition.specs.Calls.{launchOf}
 use Rattle.card.specs.Card.{headOkAt, launchAt, readCardOf}
 use Rattle.capi.specs.Calls.{Called, launchCallOf}
-use Rattle.capi_promises.specs.Calls.{CallLeaves}
-use Rattle.capi_promises.proofs.Calls.{launch-call-reaches}
+use Rattle.call_promises.specs.StateCalls.{CallLeaves}
+use Rattle.call_promises.proofs.StateCalls.{launch-call-reaches}
 
 -- length 48, version 1, NUMT 4, NUMW 1, WID 0; the mask; code base, data base and entry PC; KNL to GIDZ
 abbrev card : List ℕ

@@ -7,9 +7,9 @@ use Rattle.warp.specs.Warp.{Answered}
 use Rattle.definition.specs.State.{State, Outcome}
 use Rattle.definition.specs.Step.{stepOf}
 use Rattle.definition.specs.Calls.{Ran, runOf, releaseOf}
 use Rattle.promises.specs.Determined.{ShowsAll}
-use Rattle.promises.specs.Calls.{seen, runSeen, freed, LaunchDetermined, StepDetermined, RunDetermined, ReleaseDetermined}
+use Rattle.call_promises.specs.MachineCalls.{seen, runSeen, freed, LaunchDetermined, StepDetermined, RunDetermined, ReleaseDetermined}
 use Rattle.promises.proofs.Determined.{determined-whole}
 
 all-seen : ShowsAll seen
 all-seen r t e =

@@ -1,3 +1,4 @@
-pub mod Calls
+pub mod MachineCalls
+pub mod StateCalls
 -- the hypotheses are met, by computing
 mod Examples

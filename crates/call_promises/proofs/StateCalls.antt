@@ -34,7 +34,7 @@ use Rattle.promises.proofs.Determined.{determined-whole}
 use Rattle.promises.proofs.Refusals.{is-zero, step-answers, run-answers, step-keeps, release-refusals}
 use Rattle.promises.proofs.Reached.{reached-sound, never-malformed}
 use Rattle.promises.proofs.Runs.{run-iterates, run-tests, steps-fixed, run-reaches}
-use Rattle.capi_promises.specs.Calls.{oneOf, whole, LaunchCallAnswers, StepCallAnswers, RunCallAnswers, ReleaseCallAnswers, DecodeCallAnswers, LaunchCallKeeps, StepCallKeeps, RunCallKeeps, RunCallRoom, ReleaseCallKeeps, LaunchCallDetermined, StepCallDetermined, RunCallDetermined, ReleaseCallDetermined, DecodeCallDetermined, Holds, CallLeaves, LaunchCallReaches, StepCallReaches, RunCallReaches, ReleaseCallReaches}
+use Rattle.call_promises.specs.StateCalls.{oneOf, whole, LaunchCallAnswers, StepCallAnswers, RunCallAnswers, ReleaseCallAnswers, DecodeCallAnswers, LaunchCallKeeps, StepCallKeeps, RunCallKeeps, RunCallRoom, ReleaseCallKeeps, LaunchCallDetermined, StepCallDetermined, RunCallDetermined, ReleaseCallDetermined, DecodeCallDetermined, Holds, CallLeaves, LaunchCallReaches, StepCallReaches, RunCallReaches, ReleaseCallReaches}
 
 -- ---- answers
 

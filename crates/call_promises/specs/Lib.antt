@@ -1,0 +1,2 @@
+pub mod MachineCalls
+pub mod StateCalls

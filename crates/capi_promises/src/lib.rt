@@ -1,1 +1,0 @@
-// The promises of the calls for C: statements in specs/, their proofs in proofs/. No code.

@@ -1,0 +1,26 @@
+use Prim.Native.Nat.{ℕ}
+use mathlib.Core.List.{List}
+use mathlib.Core.Path.{_∙_}
+use lib.ListN.{drop}
+use Rattle.warp.specs.Warp.{scalarCount}
+use Rattle.layout.specs.Words.{flatCount, movingCount, fixedCount, movingStart, fixedStart}
+use Rattle.layout.proofs.Copies.{copied}
+use borrow.Author.Needs.{needs}
+use Rattle.layout.proofs.get.Statement.{statement}
+use Rattle.layout.proofs.get.Tie as tie
+
+returns : tie.Need-returns
+returns c =
+    let moving = c .before .before in
+    let splits = moving .before .before in
+    let scalars = splits .before .before in
+    let a = scalars .before .before .before .args in
+    let t : List ℕ = a .state .now in (
+      moving .copy3 .ensures ∙ copied (a .h .now) (drop movingStart t) movingCount (search needs),
+      c .copy4 .ensures ∙ copied (a .g .now) (drop fixedStart t) fixedCount (search needs),
+      scalars .copy .ensures ∙ copied (a .x .now) t scalarCount (search needs),
+      splits .copy2 .ensures ∙ copied (a .s .now) (drop scalarCount t) flatCount (search needs),
+    )
+
+pub get-spec : {M : Type 1} → statement M
+get-spec = tie.close (tie.spec (λ c κs. search needs) (λ c κs. search needs) (λ c κs. search needs) (λ c κs. search needs) returns)
