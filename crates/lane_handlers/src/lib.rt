@@ -92,8 +92,8 @@ pub fn vector(
     let d = fields::vd(w);
     let a = fields::vs2(w);
     match b {
-        Operand::Reg(r) => lanes::op_lanes(v, mask, n, op, d, a, Operand::Reg(r)),
-        Operand::Word(y) => lanes::op_lanes(v, mask, n, op, d, a, Operand::Word(y)),
+        Operand::Reg(r) => lane_ops::op_lanes(v, mask, n, op, d, a, Operand::Reg(r)),
+        Operand::Word(y) => lane_ops::op_lanes(v, mask, n, op, d, a, Operand::Word(y)),
     }
     running::next(h);
     answer::DONE

@@ -7,9 +7,8 @@ ghost use mathlib.Core.Bool.{cond};
 ghost use Prim.Native.Nat.{_^_, _<_, _≤_};
 ghost use lib.ListN.{length};
 ghost use Rattle.lanes.specs.Mask.{bit};
-ghost use Rattle.lanes.specs.Lanes.{lanesMax, registers, fileWords, slotOf, laneOf, operandOf, opLane, writeLanes, maskOf, wantsOf, valueOf, uniformOf};
-ghost use Rattle.lanes.specs.Rows.{OperandOk};
-ghost use Rattle.lanes.specs.Rows.{at, RowOf, mapLane, holdsLane, maskStep};
+ghost use Rattle.lanes.specs.Lanes.{lanesMax, registers, fileWords, slotOf, laneOf, operandOf, writeLanes, maskOf, wantsOf, valueOf, uniformOf};
+ghost use Rattle.lanes.specs.Rows.{OperandOk, at, RowOf, mapLane, holdsLane, maskStep};
 
 pub const LANES: usize = 32;
 
@@ -52,7 +51,7 @@ fn choose(t: bool, x: u32, y: u32) -> u32
 }
 
 // Register r's lanes as a row: by value and over all lanes, it is compiled to plain copies.
-fn row(v: &[u32], r: VReg) -> [u32; LANES]
+pub fn row(v: &[u32], r: VReg) -> [u32; LANES]
     requires { ⌜ (length (now v) ≡ fileWords) × (r .0 < registers) ⌝ }
     ensures { λ a. ⌜ RowOf lanesMax (laneOf (now (v .entry)) r) a ⌝ }
 {
@@ -67,7 +66,7 @@ fn row(v: &[u32], r: VReg) -> [u32; LANES]
 }
 
 // The operand's lanes as a row.
-fn operand_row(v: &[u32], b: Operand) -> [u32; LANES]
+pub fn operand_row(v: &[u32], b: Operand) -> [u32; LANES]
     requires { ⌜ (length (now v) ≡ fileWords) × OperandOk b ⌝ }
     ensures { λ a. ⌜ RowOf lanesMax (operandOf (now (v .entry)) b) a ⌝ }
 {
@@ -86,7 +85,7 @@ pub fn get(v: &[u32], r: VReg, n: usize, a: &mut [u32; LANES])
 }
 
 // The one loop of every operation: both words are at hand and one is chosen without a branch, so it is compiled to vector code.
-fn map(op: Op, v: &mut [u32], mask: u32, d: VReg, n: usize, x: &[u32; LANES], y: &[u32; LANES])
+pub fn map(op: Op, v: &mut [u32], mask: u32, d: VReg, n: usize, x: &[u32; LANES], y: &[u32; LANES])
     requires { ⌜ (length (now v) ≡ fileWords) × (d .0 < registers) × (n ≤ lanesMax) ⌝ }
     ensures { λ _. ⌜ now (v .exit) ≡ writeLanes n (bit mask) d (mapLane op (now (x .entry)) (now (y .entry))) (now (v .entry)) ⌝ }
 {
@@ -101,7 +100,15 @@ fn map(op: Op, v: &mut [u32], mask: u32, d: VReg, n: usize, x: &[u32; LANES], y:
 }
 
 // The loop of a division, which has no vector code: in the lanes of the mask only.
-fn map_on(op: Op, v: &mut [u32], mask: u32, d: VReg, n: usize, x: &[u32; LANES], y: &[u32; LANES])
+pub fn map_on(
+    op: Op,
+    v: &mut [u32],
+    mask: u32,
+    d: VReg,
+    n: usize,
+    x: &[u32; LANES],
+    y: &[u32; LANES],
+)
     requires { ⌜ (length (now v) ≡ fileWords) × (d .0 < registers) × (n ≤ lanesMax) ⌝ }
     ensures { λ _. ⌜ now (v .exit) ≡ writeLanes n (bit mask) d (mapLane op (now (x .entry)) (now (y .entry))) (now (v .entry)) ⌝ }
 {
@@ -112,44 +119,6 @@ fn map_on(op: Op, v: &mut [u32], mask: u32, d: VReg, n: usize, x: &[u32; LANES],
             v[i] = word::apply(op, x[l], y[l]);
         }
         l += 1;
-    }
-}
-
-// The loop at an operation that is known, so that each arm is compiled to code of its own.
-fn map_op(op: Op, v: &mut [u32], mask: u32, d: VReg, n: usize, x: &[u32; LANES], y: &[u32; LANES])
-    requires { ⌜ (length (now v) ≡ fileWords) × (d .0 < registers) × (n ≤ lanesMax) ⌝ }
-    ensures { λ _. ⌜ now (v .exit) ≡ writeLanes n (bit mask) d (mapLane op (now (x .entry)) (now (y .entry))) (now (v .entry)) ⌝ }
-{
-    match op {
-        Op::Add => map(Op::Add, v, mask, d, n, x, y),
-        Op::Sub => map(Op::Sub, v, mask, d, n, x, y),
-        Op::Rsub => map(Op::Rsub, v, mask, d, n, x, y),
-        Op::Sll => map(Op::Sll, v, mask, d, n, x, y),
-        Op::Srl => map(Op::Srl, v, mask, d, n, x, y),
-        Op::Sra => map(Op::Sra, v, mask, d, n, x, y),
-        Op::Slt => map(Op::Slt, v, mask, d, n, x, y),
-        Op::Sltu => map(Op::Sltu, v, mask, d, n, x, y),
-        Op::And => map(Op::And, v, mask, d, n, x, y),
-        Op::Or => map(Op::Or, v, mask, d, n, x, y),
-        Op::Xor => map(Op::Xor, v, mask, d, n, x, y),
-        Op::Mul => map(Op::Mul, v, mask, d, n, x, y),
-        Op::Mulh => map(Op::Mulh, v, mask, d, n, x, y),
-        Op::Mulhsu => map(Op::Mulhsu, v, mask, d, n, x, y),
-        Op::Mulhu => map(Op::Mulhu, v, mask, d, n, x, y),
-        Op::Div => map_on(Op::Div, v, mask, d, n, x, y),
-        Op::Divu => map_on(Op::Divu, v, mask, d, n, x, y),
-        Op::Rem => map_on(Op::Rem, v, mask, d, n, x, y),
-        Op::Remu => map_on(Op::Remu, v, mask, d, n, x, y),
-        Op::Min => map(Op::Min, v, mask, d, n, x, y),
-        Op::Minu => map(Op::Minu, v, mask, d, n, x, y),
-        Op::Max => map(Op::Max, v, mask, d, n, x, y),
-        Op::Maxu => map(Op::Maxu, v, mask, d, n, x, y),
-        Op::Seq => map(Op::Seq, v, mask, d, n, x, y),
-        Op::Sne => map(Op::Sne, v, mask, d, n, x, y),
-        Op::Sle => map(Op::Sle, v, mask, d, n, x, y),
-        Op::Sleu => map(Op::Sleu, v, mask, d, n, x, y),
-        Op::Sgt => map(Op::Sgt, v, mask, d, n, x, y),
-        Op::Sgtu => map(Op::Sgtu, v, mask, d, n, x, y),
     }
 }
 
@@ -166,16 +135,6 @@ pub fn put(v: &mut [u32], mask: u32, d: VReg, n: usize, a: &[u32; LANES])
         v[i] = choose(active(mask, Lane(l)), new, was);
         l += 1;
     }
-}
-
-// The operation into register d, in each lane of the mask. A constant count is faster, and no lane from n on is in the mask.
-pub fn op_lanes(v: &mut [u32], mask: u32, n: usize, op: Op, d: VReg, a: VReg, b: Operand)
-    requires { ⌜ (length (now v) ≡ fileWords) × (d .0 < registers) × (a .0 < registers) × OperandOk b × (n ≤ lanesMax) × (mask < 2 ^ n) ⌝ }
-    ensures { λ _. ⌜ now (v .exit) ≡ writeLanes n (bit mask) d (opLane op (now (v .entry)) a b) (now (v .entry)) ⌝ }
-{
-    let x = row(v, a);
-    let y = operand_row(v, b);
-    map_op(op, v, mask, d, LANES, &x, &y);
 }
 
 // vmv.v and vmv.s.x: the operand into register d, in each lane of the mask.

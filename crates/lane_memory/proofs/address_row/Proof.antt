@@ -28,17 +28,6 @@ loop-again c =
 pub address-row-spec : {M : Type 1} → statement M
 address-row-spec =
     tie.close
-    (tie.spec
-    Inv-loop
-    μ-loop
-    (λ c. (omega arith, (refl, λ k h. absurd (omega arith))))
-    (λ c κs. search needs)
-    (λ c. search needs)
-    (λ c. search needs)
-    (λ c κs. search needs)
-    (λ c. search needs)
-    (λ c. search needs)
-    (λ c. search needs)
-    (λ c. search needs)
-    loop-again
-    (λ c. (c .before .loop .inv .1 .0, λ k h. c .before .loop .inv .1 .1 k (omega arith))))
+    (tie.spec Inv-loop μ-loop (λ c. (omega arith, (refl, λ k h. absurd (omega arith))))
+    (λ c κs. search needs) (λ c. search needs) (λ c. search needs) (λ c κs. search needs) (λ c. search needs) (λ c. search needs) (λ c. search needs) (λ c. search needs)
+    loop-again (λ c. (c .before .loop .inv .1 .0, λ k h. c .before .loop .inv .1 .1 k (omega arith))))

@@ -47,17 +47,6 @@ loop-again c =
 pub fetch-spec : {M : Type 1} → statement M
 fetch-spec =
     tie.close
-    (tie.spec
-    Inv-loop
-    μ-loop
-    (λ c. (omega arith, (c .before .pre .0, λ k h. absurd (omega arith))))
-    (λ c κs. search needs)
-    (λ c. search needs)
-    (λ c. search needs)
-    load-at-requires
-    (λ c. search needs)
-    (λ c. search needs)
-    (λ c. search needs)
-    (λ c. search needs)
-    loop-again
-    (λ c. (c .before .loop .inv .1 .0, λ k h. c .before .loop .inv .1 .1 k (omega arith))))
+    (tie.spec Inv-loop μ-loop (λ c. (omega arith, (c .before .pre .0, λ k h. absurd (omega arith))))
+    (λ c κs. search needs) (λ c. search needs) (λ c. search needs) load-at-requires (λ c. search needs) (λ c. search needs) (λ c. search needs) (λ c. search needs)
+    loop-again (λ c. (c .before .loop .inv .1 .0, λ k h. c .before .loop .inv .1 .1 k (omega arith))))

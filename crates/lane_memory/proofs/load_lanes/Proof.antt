@@ -36,13 +36,4 @@ returns-2 : tie.Need-returns-2
 returns-2 c = (sym (c .if1 .left) ∙ tested (c .before), refl)
 
 pub load-lanes-spec : {M : Type 1} → statement M
-load-lanes-spec =
-    tie.close
-    (tie.spec
-    (λ c κs. search needs)
-    (λ c κs. search needs)
-    fetch-op-requires
-    (λ c κs. search needs)
-    (λ c. search needs)
-    returns
-    returns-2)
+load-lanes-spec = tie.close (tie.spec (λ c κs. search needs) (λ c κs. search needs) fetch-op-requires (λ c κs. search needs) (λ c. search needs) returns returns-2)

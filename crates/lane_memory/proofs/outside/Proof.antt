@@ -44,15 +44,6 @@ returns c =
 pub outside-spec : {M : Type 1} → statement M
 outside-spec =
     tie.close
-    (tie.spec
-    Inv-loop
-    μ-loop
-    (λ c. (omega arith, each-none _ _ _))
-    (λ c. search needs)
-    (λ c. search needs)
-    (λ c κs. search needs)
-    with-requires
-    (λ c. search needs)
-    (λ c. search needs)
-    loop-again
-    returns)
+    (tie.spec Inv-loop μ-loop (λ c. (omega arith, each-none _ _ _))
+    (λ c. search needs) (λ c. search needs) (λ c κs. search needs) with-requires (λ c. search needs) (λ c. search needs)
+    loop-again returns)

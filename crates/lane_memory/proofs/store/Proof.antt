@@ -60,18 +60,6 @@ returns c =
 pub store-spec : {M : Type 1} → statement M
 store-spec =
     tie.close
-    (tie.spec
-    Inv-loop
-    μ-loop
-    (λ c. (omega arith, each-none _ _ _))
-    (λ c κs. search needs)
-    (λ c. search needs)
-    (λ c. search needs)
-    (λ c. search needs)
-    (λ c. search needs)
-    put-at-requires
-    (λ c. search needs)
-    (λ c. search needs)
-    loop-again
-    (λ c. same-long (c .before))
-    returns)
+    (tie.spec Inv-loop μ-loop (λ c. (omega arith, each-none _ _ _))
+    (λ c κs. search needs) (λ c. search needs) (λ c. search needs) (λ c. search needs) (λ c. search needs) put-at-requires (λ c. search needs) (λ c. search needs)
+    loop-again (λ c. same-long (c .before)) returns)

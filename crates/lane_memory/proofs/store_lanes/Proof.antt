@@ -37,14 +37,4 @@ returns-2 : tie.Need-returns-2
 returns-2 c = (sym (c .if1 .left) ∙ tested (c .before), refl)
 
 pub store-lanes-spec : {M : Type 1} → statement M
-store-lanes-spec =
-    tie.close
-    (tie.spec
-    (λ c κs. search needs)
-    (λ c κs. search needs)
-    (λ c κs. search needs)
-    store-op-requires
-    (λ c. search needs)
-    returns
-    (λ c. search needs)
-    returns-2)
+store-lanes-spec = tie.close (tie.spec (λ c κs. search needs) (λ c κs. search needs) (λ c κs. search needs) store-op-requires (λ c. search needs) returns (λ c. search needs) returns-2)

@@ -4,15 +4,9 @@ use Rattle.lanes.specs.Mask.{bitAt}
 use Rattle.lanes.proofs.active.Statement.{statement}
 use Rattle.lanes.proofs.active.Tie as tie
 
-cast-result : tie.Need-cast-result
-cast-result c = search needs
-
-shr-result : tie.Need-shr-result
-shr-result c = search needs
-
 returns : tie.Need-returns
 unfolding bitAt
 returns c = refl
 
 pub active-spec : {M : Type 1} → statement M
-active-spec = tie.close (tie.spec cast-result shr-result returns)
+active-spec = tie.close (tie.spec (λ c. search needs) (λ c. search needs) returns)

@@ -13,8 +13,6 @@ row-requires c κs =
 pub operand-row-spec : {M : Type 1} → statement M
 operand-row-spec =
     tie.close
-    (tie.spec
-    (λ c. search needs) row-requires
-    (λ c. search needs)
+    (tie.spec (λ c. search needs) row-requires (λ c. search needs)
     (λ c. rw (c .before .before .b .given .1) (c .row .ensures))
     (λ c. rw (c .before .b2 .given .1) (row-of _)))

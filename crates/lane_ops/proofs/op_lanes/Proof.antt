@@ -2,13 +2,13 @@ use mathlib.Core.Path.{ap₂, _∙_}
 use native.Mathlib.Omega.{arith}
 use borrow.Author.Needs.{needs}
 use Rattle.word.specs.Word.{applyOf}
 use Rattle.lanes.specs.Mask.{bit}
 use Rattle.lanes.specs.Lanes.{opLane}
 use Rattle.lanes.specs.Rows.{mapLane}
 use Rattle.lanes.proofs.Laws.{write-same}
 use Rattle.lanes.proofs.RowLaws.{each-numt}
-use Rattle.lanes.proofs.op_lanes.Statement.{statement}
-use Rattle.lanes.proofs.op_lanes.Tie as tie
+use Rattle.lane_ops.proofs.op_lanes.Statement.{statement}
+use Rattle.lane_ops.proofs.op_lanes.Tie as tie
 
 returns : tie.Need-returns
 returns c =
