@@ -62,10 +62,10 @@ module _ (i : Instr) (g h x s v d h' : List ℕ) (z : length h ≡ movingCount) 
   on-goes : Goes next g h x s h' x s
   on-goes = next-goes g h x s z n h' x next eh refl
 
-  pub written : (on : Lane → Bool) (r : VReg) (f : Lane → ℕ) (v' : List ℕ) → effectOf i (state (warpOf g h x s) v d) ≡ writes on r f → v' ≡ writeLanes (fixedIn g .numt) on r f v
+  pub file-written : (on : Lane → Bool) (r : VReg) (f : Lane → ℕ) (v' : List ℕ) → effectOf i (state (warpOf g h x s) v d) ≡ writes on r f → v' ≡ writeLanes (fixedIn g .numt) on r f v
       → Handles (execOf i) 0 (lists g h x s v d) (lists g h' x s v' d)
   unfolding warpOf
-  written on r f v' k ev =
+  file-written on r f v' k ev =
       record {
         long = on-goes .long;
         room = on-goes .room;
@@ -74,8 +74,8 @@ module _ (i : Instr) (g h x s v d h' : List ℕ) (z : length h ≡ movingCount) 
             ∙ sym (exec-taken i (state (warpOf g h x s) v d) e ∙ ap (λ (y : Effect). outcome 0 (effect y (state (warpOf g h x s) v d))) k);
       }
 
-  pub stored : (d' : List ℕ) → effectOf i (state (warpOf g h x s) v d) ≡ stores d' → Handles (execOf i) 0 (lists g h x s v d) (lists g h' x s v d')
-  stored d' k =
+  pub data-stored : (d' : List ℕ) → effectOf i (state (warpOf g h x s) v d) ≡ stores d' → Handles (execOf i) 0 (lists g h x s v d) (lists g h' x s v d')
+  data-stored d' k =
       record {
         long = on-goes .long;
         room = on-goes .room;

@@ -10,6 +10,5 @@ pub amount-spec : {M : Type 1} → statement M
 amount-spec =
     tie.close
     (tie.spec
-    (λ c κs. search needs)
-    (λ c. search needs)
+    (λ c κs. search needs) (λ c. search needs)
     (λ c. let a = (c .before .args) in let f = fieldsOf (a .w) in rw (lt-ltb (f .rs2) 2048 (omega (arith, (c .shift-amount) .ensures .1, (c .shift-amount) .ensures .0))) ((c .shift-amount) .ensures .0)))

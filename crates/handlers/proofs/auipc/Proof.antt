@@ -17,9 +17,5 @@ unfolding effectOf refusalsOf warpOf
 auipc-spec =
     tie.close
     (tie.spec
-    (λ c. search needs)
-    (λ c κs. search needs)
-    (λ c. search needs)
-    (λ c κs. search needs)
-    (λ c κs. search needs)
+    (λ c. search needs) (λ c κs. search needs) (λ c. search needs) (λ c κs. search needs) (λ c κs. search needs)
     (λ c. let four = c .before .before .before .before in let a = (four .before .before .args) in let f = fieldsOf (a .w) in λ g s v d n. given (I.Auipc (xOf (f .rd)) (immU f)) (xOf (f .rd)) _ _ g (a .h .now) (a .x .now) s v d _ _ ((c .gives) .ensures .0) ((c .gives) .ensures .1 g s n) refl (ap (λ (z : ℕ). goes (putsIn (xOf (f .rd)) z (warpOf g (a .h .now) (a .x .now) s))) (sym ((c .before .before .before .add) .ensures ∙ ap (λ (z : ℕ). addOf (pcIn (a .h .now)) (z * 4096)) ((c .before .before .before .before .imm-u) .ensures .0))))))

@@ -14,7 +14,5 @@ csr-ok-spec =
     (λ c. let a = (c .before .before .args) in let f = fieldsOf (a .w) in rw (← (c .before .imm-i) .ensures .0) (csr-low (csrOpOf f) _ (f .rs1) ((c .if1) .taken)))
     (λ c. let a = (c .before .before .before .args) in let f = fieldsOf (a .w) in rw (← (c .before .before .imm-i) .ensures .0) (csr-high (csrOpOf f) _ (f .rs1) ((c .before .if1) .left) ((c .if2) .taken)))
     (λ c. let a = (c .before .before .before .before .args) in let f = fieldsOf (a .w) in rw (← (c .before .before .before .imm-i) .ensures .0) (csr-free (csrOpOf f) _ (f .rs1) ((c .before .before .if1) .left) ((c .before .if2) .left) ((c .if3) .taken)))
-    (λ c κs. search needs)
-    (λ c κs. search needs)
-    (λ c κs. search needs)
+    (λ c κs. search needs) (λ c κs. search needs) (λ c κs. search needs)
     (λ c. let four = c .before .before .before .before in let a = (four .before .before .before .args) in let f = fieldsOf (a .w) in rw (← (four .before .before .imm-i) .ensures .0) (csr-fixed (csrOpOf f) _ (f .rs1) ((four .before .if1) .left) ((c .before .before .before .before .if2) .left) ((c .before .before .before .if3) .left) _ ((c .csr-writes) .ensures ∙ rw ((c .before .before .csr-op) .ensures, (c .before .rs1) .ensures .0)))))

@@ -21,6 +21,5 @@ end-spec =
     (tie.spec
     (λ c. search needs)
     (λ c. let a = (c .before .before .args) in λ g x s v d n. refused I.EndPrg 11 (lists g (a .h .now) x s v d) (λ z. omega arith) (c .before .before .pre) n (row-fails 11 _ (ne-eqb _ _ ((c .if1) .taken))))
-    (λ c. search needs)
-    (λ c. search needs)
+    (λ c. search needs) (λ c. search needs)
     (λ c. let a = (c .before .before .args) in λ g x s v d n. moved I.EndPrg (withStop true false) g (a .h .now) x s v d _ x s (stop-goes g (a .h .now) x s (c .before .before .pre) n _ x true false refl) (row-passes 11 _ (eq-eqb _ _ ((c .if1) .left))) refl))

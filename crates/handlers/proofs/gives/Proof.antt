@@ -11,7 +11,5 @@ pub gives-spec : {M : Type 1} → statement M
 gives-spec =
     tie.close
     (tie.spec
-    (λ c κs. search needs)
-    (λ c κs. search needs)
-    (λ c κs. search needs)
+    (λ c κs. search needs) (λ c κs. search needs) (λ c κs. search needs)
     (λ c. let four = c .before .before .before .before in let a = (four .before .args) in let f = fieldsOf (a .w) in (refl, λ g s n. next-goes g (a .h .now) (a .x .now) s (four .before .pre) n _ _ (putsIn (xOf (f .rd)) (a .y)) ((c .next) .ensures) (ap next (rw ((c .before .before .put-x) .ensures, (c .before .before .before .xd) .ensures .0) (x-warp g (a .h .now) (a .x .now) s (xOf (f .rd)) (a .y)))))))

@@ -19,9 +19,7 @@ unfolding effectOf refusalsOf warpOf
 jal-spec =
     tie.close
     (tie.spec
-    (λ c κs. search needs)
-    (λ c κs. search needs)
+    (λ c κs. search needs) (λ c κs. search needs)
     (λ c. let a = (c .before .before .before .before .args) in let f = fieldsOf (a .w) in λ g s v d n. refused (I.Jal (xOf (f .rd)) (immJ f)) 8 (lists g (a .h .now) (a .x .now) s v d) (λ z. omega arith) (c .before .before .before .before .pre) n (row-holds 8 (astray (addOf (pcIn (a .h .now)) (extendOf 21 (immJ f)))) (astray-so (addOf (pcIn (a .h .now)) (extendOf 21 (immJ f))) _ ((c .before .offset) .ensures ∙ ap (λ (z : ℕ). addOf (pcIn (a .h .now)) (extendOf 21 z)) ((c .before .before .imm-j) .ensures .0)) ((c .if1) .taken))))
-    (λ c κs. search needs)
-    (λ c κs. search needs)
+    (λ c κs. search needs) (λ c κs. search needs)
     (λ c. let four = c .before .before .before .before in let a = (four .before .before .before .before .args) in let f = fieldsOf (a .w) in λ g s v d n. moved (I.Jal (xOf (f .rd)) (immJ f)) (linked ((c .before .xd) .result) ((four .before .offset) .result)) g (a .h .now) (a .x .now) s v d _ _ s ((c .link) .ensures g s n) (row-silent 8 (astray (addOf (pcIn (a .h .now)) (extendOf 21 (immJ f)))) (astray-not (addOf (pcIn (a .h .now)) (extendOf 21 (immJ f))) _ ((four .before .offset) .ensures ∙ ap (λ (z : ℕ). addOf (pcIn (a .h .now)) (extendOf 21 z)) ((four .before .before .imm-j) .ensures .0)) ((c .before .before .before .before .if1) .left))) (rw ((c .before .xd) .ensures .0) (ap (λ (p : ℕ). goes (linked (xOf (f .rd)) p (warpOf g (a .h .now) (a .x .now) s))) (sym ((four .before .offset) .ensures ∙ ap (λ (z : ℕ). addOf (pcIn (a .h .now)) (extendOf 21 z)) ((four .before .before .imm-j) .ensures .0)))))))

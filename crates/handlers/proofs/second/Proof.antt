@@ -6,6 +6,5 @@ pub second-spec : {M : Type 1} → statement M
 second-spec =
     tie.close
     (tie.spec
-    (λ c κs. search needs)
-    (λ c κs. search needs)
+    (λ c κs. search needs) (λ c κs. search needs)
     (λ c. rw ((c .get-x) .ensures, (c .before .xs2) .ensures .0)))

@@ -14,8 +14,5 @@ unfolding effectOf refusalsOf
 setrpc-spec =
     tie.close
     (tie.spec
-    (λ c κs. search needs)
-    (λ c κs. search needs)
-    (λ c κs. search needs)
-    (λ c κs. search needs)
+    (λ c κs. search needs) (λ c κs. search needs) (λ c κs. search needs) (λ c κs. search needs)
     (λ c. let four = c .before .before .before .before in let a = (four .before .before .args) in let f = fieldsOf (a .w) in λ g s v d n. moved (I.SetRpc (xOf (f .rd)) (xOf (f .rs1)) (immI f)) (setRpcOf ((c .before .before .before .xd) .result) ((c .before .before .xs1) .result) ((c .before .imm-i) .result)) g (a .h .now) (a .x .now) s v d _ _ s ((c .setrpc) .ensures g s n) refl (rw ((c .before .before .before .xd) .ensures .0, (c .before .before .xs1) .ensures .0, (c .before .imm-i) .ensures .0))))

@@ -16,12 +16,7 @@ unfolding sourceIn warpOf
 operand-spec =
     tie.close
     (tie.spec
-    (λ c κs. search needs)
-    (λ c κs. search needs)
-    (λ c κs. search needs)
-    (λ c κs. search needs)
-    (λ c. search needs)
-    (λ c κs. search needs)
+    (λ c κs. search needs) (λ c κs. search needs) (λ c κs. search needs) (λ c κs. search needs) (λ c. search needs) (λ c κs. search needs)
     (λ c κs. search needs)
     (λ c. ((c .vs1) .ensures .1, λ g h s v d. rw ((c .vs1) .ensures .0) (simp (sym ((c .before .before .funct3) .ensures .0) ∙ (c .before .match) .keys1))))
     (λ c. ((c .vs12) .ensures .1, λ g h s v d. rw ((c .vs12) .ensures .0) (simp (sym ((c .before .before .funct3) .ensures .0) ∙ (c .before .match) .keys2))))

@@ -10,10 +10,7 @@ pub private-spec : {M : Type 1} → statement M
 private-spec =
     tie.close
     (tie.spec
-    (λ c. search needs)
-    (λ c. search needs)
-    (λ c. search needs)
-    (λ c. search needs)
+    (λ c. search needs) (λ c. search needs) (λ c. search needs) (λ c. search needs)
     (λ c. let a = (c .before .before .before .before .args) in record { fits = omega (arith, tid-small (fixedIn (a .g .now)) (c .before .before .before .before .pre)) })
     (λ c. search needs)
     (λ c. refl))

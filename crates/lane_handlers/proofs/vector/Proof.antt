@@ -1,8 +1,7 @@
-use Prim.Native.Nat.{ℕ, _%_}
+use Prim.Native.Nat.{ℕ, _%_, _^_, _<_, _≤_}
 use mathlib.Core.List.{List}
 use mathlib.Core.Logic.{⊎-elim}
 use mathlib.Core.Path.{_≡_, _∙_, refl, sym, ap}
-use native.Mathlib.Omega.{arith}
 use lib.ListN.{length}
 use borrow.Author.Needs.{needs}
 use Rattle.word.specs.declared.Op.{Op}
@@ -12,15 +11,17 @@ use Rattle.isa.specs.Kinds.{opLimit, laneOpWord, sourceIn}
 use Rattle.isa.specs.Number.{opAt}
 use Rattle.lanes.specs.declared.Lane.{Lane}
 use Rattle.lanes.specs.declared.Operand.{Operand}
-use Rattle.lanes.specs.Lanes.{opLane, writeLanes}
+use Rattle.lanes.specs.Lanes.{fileWords, lanesMax, registers, opLane, writeLanes}
 use Rattle.lanes.specs.Mask.{bit}
+use Rattle.lanes.specs.Rows.{OperandOk}
 use Rattle.lanes.proofs.Laws.{write-length}
 use Rattle.layout.specs.Words.{maskIn, fixedIn, warpOf}
 use Rattle.definition.specs.Exec.{effectOf}
 use Rattle.definition.specs.Refuse.{refusalsOf}
 use Rattle.definition.specs.State.{state}
 use Rattle.definition.proofs.Immediate.{shift-operand}
-use Rattle.handlers.proofs.Laws.{written}
+use Rattle.handlers.proofs.Laws.{file-written}
+use Rattle.lane_handlers.proofs.Laws.{lanes-fit}
 use Rattle.lane_handlers.proofs.vector.Statement.{statement}
 use Rattle.lane_handlers.proofs.vector.Tie as tie
 
@@ -30,29 +31,15 @@ op t = t .before .before .before .before
 abbrev start : tie.After-vs2 → tie.Start
 start t = op t .before .before .before
 
-op-lanes-requires : tie.Need-op-lanes-requires
-op-lanes-requires c κs =
-    let t = c .before .before .before .before in
-    let lent = start t .pre .at in (
-      lent .file,
-      t .before .vd .ensures .1,
-      t .vs2 .ensures .1,
-      rw (c .before .before .b .given .1) at (op t .before .operand .ensures .0),
-      omega (arith, t .before .before .threads .ensures, lent .fixed .lanes .1),
-      rw (t .before .before .threads .ensures) (lent .below),
-    )
-
-op-lanes-requires-2 : tie.Need-op-lanes-requires-2
-op-lanes-requires-2 c κs =
-    let t = c .before .before .before .before in
-    let lent = start t .pre .at in (
-      lent .file,
-      t .before .vd .ensures .1,
-      t .vs2 .ensures .1,
-      rw (c .before .before .b2 .given .1) at (op t .before .operand .ensures .0),
-      omega (arith, t .before .before .threads .ensures, lent .fixed .lanes .1),
-      rw (t .before .before .threads .ensures) (lent .below),
-    )
+-- what either call asks, with an operand that is the one read
+asked : (t : tie.After-vs2) (b : Operand) → op t .before .operand .result ≡ b →
+    let a = start t .args in
+    (length (a .v .now) ≡ fileWords) × (t .before .vd .result .0 < registers) × (t .vs2 .result .0 < registers) × OperandOk b × (t .before .before .threads .result ≤ lanesMax)
+    × (maskIn (a .h .now) < 2 ^ t .before .before .threads .result)
+asked t b e =
+    let lent = start t .pre .at in
+    let fit = lanes-fit lent (t .before .before .threads .ensures) in
+    (lent .file, t .before .vd .ensures .1, t .vs2 .ensures .1, rw e at (op t .before .operand .ensures .0), fit .0, fit .1)
 
 -- whichever call was made, the file has what the operation gives with the operand
 given : (m : tie.At-match-came) →
@@ -79,7 +66,7 @@ returns c =
     let a = start t .args in
     let f = fieldsOf (a .w) in
     λ s d n.
-    written (laneOpWord (opAt (a .kind % opLimit)) f) (a .g .now) (a .h .now) (a .x .now) s (a .v .now) d _ (start t .pre .long) n (c .next .ensures) refl (bit (maskIn (a .h .now))) _ _ _ refl
+    file-written (laneOpWord (opAt (a .kind % opLimit)) f) (a .g .now) (a .h .now) (a .x .now) s (a .v .now) d _ (start t .pre .long) n (c .next .ensures) refl (bit (maskIn (a .h .now))) _ _ _ refl
     (given (c .before .before)
     ∙ told _ _ _ _ _ _ _ (a .v .now) _ _ _ _ (t .before .before .threads .ensures) (t .before .vd .ensures .0) (op t .op-at .ensures) (t .vs2 .ensures .0) (op t .before .operand .ensures .1 (a .g .now) (a .h .now) s (a .v .now) d)
     ∙ ap (λ (e : Lane → ℕ). writeLanes (fixedIn (a .g .now) .numt) (bit (maskIn (a .h .now))) (vOf (f .rd)) e (a .v .now))
@@ -90,5 +77,6 @@ vector-spec =
     tie.close
     (tie.spec
     (λ c κs. search needs) (λ c κs. search needs) (λ c. search needs) (λ c κs. search needs) (λ c κs. search needs) (λ c κs. search needs)
-    (λ c. search needs) op-lanes-requires (λ c. search needs) op-lanes-requires-2
+    (λ c. search needs) (λ c κs. asked (c .before .before .before .before) _ (c .before .before .b .given .1))
+    (λ c. search needs) (λ c κs. asked (c .before .before .before .before) _ (c .before .before .b2 .given .1))
     (λ c κs. search needs) same-length returns)

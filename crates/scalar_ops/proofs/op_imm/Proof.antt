@@ -1,5 +1,5 @@
 use Rattle.definition.specs.Refuse.{refusalsOf}
-use Rattle.exec.proofs.Laws.{imm-arm}
+use Rattle.scalar_ops.proofs.Laws.{imm-arm}
 use Rattle.handlers.proofs.Laws.{refused, told}
 use Rattle.handlers.specs.Handles.{lists}
 use Rattle.isa.specs.Fields.{fieldsOf, immI}
@@ -14,47 +14,20 @@ use borrow.Author.Needs.{needs}
 use mathlib.Core.List.{[]}
 use mathlib.Core.Path.{_∙_, ap₂, refl, sym}
 use native.Mathlib.Omega.{arith}
-use Rattle.exec.proofs.op_imm.Statement.{statement}
-use Rattle.exec.proofs.op_imm.Tie as tie
+use Rattle.scalar_ops.proofs.op_imm.Statement.{statement}
+use Rattle.scalar_ops.proofs.op_imm.Tie as tie
 
 pub op-imm-spec : {M : Type 1} → statement M
 unfolding rowOf refusalsOf
 op-imm-spec =
     tie.close
     (tie.spec
-    (λ c κs. search needs)
-    (λ c κs. search needs)
-    (λ c κs. search needs)
-    (λ c κs. search needs)
-    (λ c κs. search needs)
-    (λ c κs. search needs)
-    (λ c κs. search needs)
-    (λ c κs. search needs)
-    (λ c κs. search needs)
-    (λ c κs. search needs)
-    (λ c κs. search needs)
-    (λ c κs. search needs)
-    (λ c κs. search needs)
-    (λ c κs. search needs)
-    (λ c κs. search needs)
-    (λ c κs. search needs)
-    (λ c κs. search needs)
-    (λ c κs. search needs)
-    (λ c κs. search needs)
-    (λ c κs. search needs)
-    (λ c κs. search needs)
-    (λ c κs. search needs)
-    (λ c κs. search needs)
-    (λ c κs. search needs)
-    (λ c κs. search needs)
-    (λ c κs. search needs)
-    (λ c κs. search needs)
-    (λ c κs. search needs)
-    (λ c κs. search needs)
-    (λ c κs. search needs)
-    (λ c κs. search needs)
-    (λ c κs. search needs)
-    (λ c κs. search needs)
+    (λ c κs. search needs) (λ c κs. search needs) (λ c κs. search needs) (λ c κs. search needs) (λ c κs. search needs) (λ c κs. search needs)
+    (λ c κs. search needs) (λ c κs. search needs) (λ c κs. search needs) (λ c κs. search needs) (λ c κs. search needs) (λ c κs. search needs)
+    (λ c κs. search needs) (λ c κs. search needs) (λ c κs. search needs) (λ c κs. search needs) (λ c κs. search needs) (λ c κs. search needs)
+    (λ c κs. search needs) (λ c κs. search needs) (λ c κs. search needs) (λ c κs. search needs) (λ c κs. search needs) (λ c κs. search needs)
+    (λ c κs. search needs) (λ c κs. search needs) (λ c κs. search needs) (λ c κs. search needs) (λ c κs. search needs) (λ c κs. search needs)
+    (λ c κs. search needs) (λ c κs. search needs) (λ c κs. search needs)
     (λ c. let four = c .before .before .before .before in let a = (four .before .before .before .before .args) in let f = fieldsOf (a .w) in imm-arm (a .kind) (a .w) O.Add (immI f) _ _ (a .h .now) (a .x .now) _ _ (rw ((four .before .before .before .match) .keys1)) ((c .before .before .before .add) .ensures ∙ ap₂ (applyOf O.Add) ((four .before .first) .ensures) ((c .before .before .before .before .immediate) .ensures)) ((c .gives) .ensures))
     (λ c. let four = c .before .before .before .before in let a = (four .before .before .before .before .args) in let f = fieldsOf (a .w) in imm-arm (a .kind) (a .w) O.Sll (f .rs2) _ _ (a .h .now) (a .x .now) _ _ (rw ((four .before .before .before .match) .keys2)) ((c .before .before .before .sll) .ensures ∙ ap₂ (applyOf O.Sll) ((four .before .first2) .ensures) ((c .before .before .before .before .amount) .ensures)) ((c .gives2) .ensures))
     (λ c. let four = c .before .before .before .before in let a = (four .before .before .before .before .args) in let f = fieldsOf (a .w) in imm-arm (a .kind) (a .w) O.Srl (f .rs2) _ _ (a .h .now) (a .x .now) _ _ (rw ((four .before .before .before .match) .keys3)) ((c .before .before .before .srl) .ensures ∙ ap₂ (applyOf O.Srl) ((four .before .first3) .ensures) ((c .before .before .before .before .amount2) .ensures)) ((c .gives3) .ensures))
