@@ -1,11 +1,11 @@
 -- A layout, once over its widths: writing what is read, and reading what is written.
-use Prim.Native.Nat.{ℕ, suc, _+_, _^_, _<_}
+use Prim.Native.Nat.{ℕ, _+_, _^_, _<_}
 use mathlib.Core.Path.{_≡_, refl, sym, ap, ap₂, _∙_}
 use mathlib.Core.List.{List, [], _∷_, _++_, append-assoc, append-nil}
 use native.Mathlib.Omega.{arith}
-use native.Mathlib.Nat.{add-zero, add-suc, suc-add}
-use lib.ListN.{length, drop, set, length-append, drop-of-length-le}
+use lib.ListN.{length, drop, length-append, drop-of-length-le}
 use lib.Seq.{sets, sets-eq}
+use Rattle.text.proofs.Laws.{sets-append}
 use Rattle.card.specs.BigEndian.{beAt, beBytes}
 use Rattle.card.proofs.BigEndianLaws.{Bytes, length-be, bytes-at, at-bytes}
 use Rattle.card.specs.Layout.{Values, end, _▹_, totalOf, valuesAt, bytesOf}
@@ -39,11 +39,6 @@ values-bytes (_▹_ {w} {ws} x xs) f p =
     ∙ values-bytes xs (f .1) (p ++ beBytes w x))
 
 -- ---- the values put into a target one after another
-
-pub sets-append : (xs t : List ℕ) (i : ℕ) (ys : List ℕ) → sets (sets t i xs) (i + length xs) ys ≡ sets t i (xs ++ ys)
-sets-append [] t i ys = ap (λ (k : ℕ). sets t k ys) (add-zero i)
-sets-append (x ∷ xs) t i ys =
-    ap (λ (k : ℕ). sets (sets (set t i x) (suc i) xs) k ys) (add-suc i (length xs) ∙ sym (suc-add i (length xs))) ∙ sets-append xs (set t i x) (suc i) ys
 
 puts-sets : {ws : List ℕ} (xs : Values ws) (i : ℕ) (t : List ℕ) → putsAll xs i t ≡ sets t i (bytesOf xs)
 puts-sets end i t = refl

@@ -20,7 +20,7 @@ use Rattle.definition.specs.State.{Outcome}
 use Rattle.definition.specs.Refuse.{runsOkOf}
 use Rattle.definition.specs.Calls.{launchOf, runOf}
 use Rattle.definition.proofs.Sizes.{sizes-kept}
-use Rattle.printout.specs.Puts.{Puts}
+use Rattle.text.specs.Puts.{Puts}
 use Rattle.printout.specs.Printout.{codeLine, budget, kernelBytes, dataBytes, filesOkOf, Report, report, ranReport, kernelWordsOf, kernelReport, reportOf, printoutOf, Printed, printed, putInto, buffersOkOf, printFilesOf, roomNeeded}
 
 -- ---- the files

@@ -12,7 +12,7 @@ use Rattle.definition.specs.Refuse.{runsOkOf, refusalsOf}
 use Rattle.definition.specs.Exec.{effectOf}
 use Rattle.definition.specs.Step.{stepOf}
 use Rattle.definition.specs.Calls.{launchOf, stepsOf, runOf}
-use Rattle.printout.specs.Text.{decimalOf, hexOf}
+use Rattle.text.specs.Text.{decimalOf, hexOf}
 use Rattle.printout.specs.Printout.{codeLine, fiveLines, kernelWordsOf, filesOkOf, kernelReport, reportOf, printoutOf}
 
 -- length 48, version 1, NUMT 4, NUMW 1, WID 0; the mask; code base, data base and entry PC; KNL to GIDZ

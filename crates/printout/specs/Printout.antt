@@ -12,7 +12,7 @@ use Rattle.warp.specs.declared.Launch.{Launch}
 use Rattle.card.specs.Card.{readCardOf}
 use Rattle.definition.specs.State.{Outcome}
 use Rattle.definition.specs.Calls.{launchOf, Ran, runOf}
-use Rattle.printout.specs.Text.{hexOf, decimalOf, lineOf}
+use Rattle.text.specs.Text.{hexOf, decimalOf, lineOf}
 
 -- ---- the lines' names in ASCII, each with the blank after it
 

@@ -9,10 +9,4 @@ unfolding beBytes
 returns c = rw div-one
 
 pub put-byte-spec : {M : Type 1} → statement M
-put-byte-spec =
-    tie.close
-    (tie.spec
-    (λ c. search needs)
-    (λ c. search needs)
-    (λ c. search needs)
-    returns)
+put-byte-spec = tie.close (tie.spec (λ c. search needs) (λ c. search needs) (λ c. search needs) returns)

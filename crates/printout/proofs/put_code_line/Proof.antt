@@ -8,10 +8,4 @@ unfolding codeLine
 returns c = c .before .before .put-decimal-line .ensures
 
 pub put-code-line-spec : {M : Type 1} → statement M
-put-code-line-spec =
-    tie.close
-    (tie.spec
-    (λ c. search needs)
-    (λ c κs. search needs)
-    (λ c. search needs)
-    returns)
+put-code-line-spec = tie.close (tie.spec (λ c. search needs) (λ c κs. search needs) (λ c. search needs) returns)

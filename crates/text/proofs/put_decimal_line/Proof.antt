@@ -1,8 +1,8 @@
-use Rattle.printout.proofs.Laws.{puts-then, decimal-size}
+use Rattle.text.proofs.Laws.{puts-then, decimal-size}
 use native.Mathlib.Omega.{arith}
 use borrow.Author.Needs.{needs}
-use Rattle.printout.proofs.put_decimal_line.Statement.{statement}
-use Rattle.printout.proofs.put_decimal_line.Tie as tie
+use Rattle.text.proofs.put_decimal_line.Statement.{statement}
+use Rattle.text.proofs.put_decimal_line.Tie as tie
 
 put-decimal-requires : tie.Need-put-decimal-requires
 put-decimal-requires c κs =
@@ -23,11 +23,4 @@ returns c =
     (puts-then (puts-then (name .put-text .ensures) (value .put-decimal .ensures)) (feed .put-byte .ensures), omega (arith, decimal-size (name .before .before .before .before .args .n)))
 
 pub put-decimal-line-spec : {M : Type 1} → statement M
-put-decimal-line-spec =
-    tie.close
-    (tie.spec
-    (λ c κs. search needs)
-    put-decimal-requires
-    put-byte-requires
-    (λ c. search needs)
-    returns)
+put-decimal-line-spec = tie.close (tie.spec (λ c κs. search needs) put-decimal-requires put-byte-requires (λ c. search needs) returns)

@@ -3,35 +3,27 @@ use mathlib.Core.Path.{sym, _∙_}
 use native.Mathlib.Omega.{arith}
 use lib.Seq.{length-sets}
 use borrow.Author.Needs.{needs}
-use Rattle.printout.proofs.Laws.{puts-none, puts-then, puts-as, hex-length, hex-more}
+use Rattle.text.proofs.Laws.{puts-none, puts-then, puts-as, hex-length, hex-more}
 use borrow.Fn.Kinds.{In}
 use borrow.Fn.PlainCycle.{Measures, is, falls, and}
-use Rattle.printout.proofs.put_hex_digits.Reads as put-hex-digits
-use Rattle.printout.proofs.put_hex_digits.Kinds as put-hex-digits-kinds
-use Rattle.printout.proofs.+put_hex_digits.Lts-put_hex_digits as put-hex-digits-lts
-use Rattle.printout.proofs.digit.Reads as digit-reads
-use Rattle.printout.proofs.put_byte.Reads as put-byte-reads
-use Rattle.printout.proofs.+put_hex_digits.{statement}
-use Rattle.printout.proofs.+put_hex_digits.Tie.{close}
+use Rattle.text.proofs.put_hex_digits.Reads as put-hex-digits
+use Rattle.text.proofs.put_hex_digits.Kinds as put-hex-digits-kinds
+use Rattle.text.proofs.+put_hex_digits.Lts-put_hex_digits as put-hex-digits-lts
+use Rattle.text.proofs.digit.Reads as digit-reads
+use Rattle.text.proofs.put_byte.Reads as put-byte-reads
+use Rattle.text.proofs.+put_hex_digits.{statement}
+use Rattle.text.proofs.+put_hex_digits.Tie.{close}
 
 abbrev μ-put-hex-digits : Measures 1 put-hex-digits-kinds.ps ℕ
 μ-put-hex-digits κs a = a .1 .1 .0
 
 abbrev put-hex-digits-at : ℕ → In 1 put-hex-digits-kinds.ps
 put-hex-digits-at t =
-    and
-    1
-    put-hex-digits-kinds.ps
-    (is 1 put-hex-digits-kinds.ps μ-put-hex-digits t)
-    put-hex-digits.Pre
+    and 1 put-hex-digits-kinds.ps (is 1 put-hex-digits-kinds.ps μ-put-hex-digits t) put-hex-digits.Pre
 
 abbrev put-hex-digits-below : ℕ → In 1 put-hex-digits-kinds.ps
 put-hex-digits-below t =
-    and
-    1
-    put-hex-digits-kinds.ps
-    (falls 1 put-hex-digits-kinds.ps _<_ μ-put-hex-digits t)
-    put-hex-digits.Pre
+    and 1 put-hex-digits-kinds.ps (falls 1 put-hex-digits-kinds.ps _<_ μ-put-hex-digits t) put-hex-digits.Pre
 
 pub +put-hex-digits-spec : {M : Type 1} → statement M
 +put-hex-digits-spec = close μ-put-hex-digits λ t. put-hex-digits-lts.spec (

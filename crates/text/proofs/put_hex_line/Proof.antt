@@ -1,9 +1,9 @@
-use Rattle.printout.specs.Text.{hexOf}
-use Rattle.printout.proofs.Laws.{puts-then, hex-length}
+use Rattle.text.specs.Text.{hexOf}
+use Rattle.text.proofs.Laws.{puts-then, hex-length}
 use native.Mathlib.Omega.{arith}
 use borrow.Author.Needs.{needs}
-use Rattle.printout.proofs.put_hex_line.Statement.{statement}
-use Rattle.printout.proofs.put_hex_line.Tie as tie
+use Rattle.text.proofs.put_hex_line.Statement.{statement}
+use Rattle.text.proofs.put_hex_line.Tie as tie
 
 returns : tie.Need-returns
 unfolding hexOf
@@ -14,11 +14,4 @@ returns c =
     (puts-then (puts-then (name .put-text .ensures) (value .put-hex-digits .ensures)) (feed .put-byte .ensures), omega (arith, hex-length 8 (name .before .before .before .before .args .n)))
 
 pub put-hex-line-spec : {M : Type 1} → statement M
-put-hex-line-spec =
-    tie.close
-    (tie.spec
-    (λ c κs. search needs)
-    (λ c κs. search needs)
-    (λ c κs. search needs)
-    (λ c. search needs)
-    returns)
+put-hex-line-spec = tie.close (tie.spec (λ c κs. search needs) (λ c κs. search needs) (λ c κs. search needs) (λ c. search needs) returns)

@@ -4,16 +4,16 @@ use native.Mathlib.Omega.{arith}
 use lib.Seq.{length-sets}
 use borrow.Author.Needs.{needs}
 use lib.ListN.{length, length-append}
-use Rattle.printout.proofs.Laws.{puts-then, puts-as, decimal-few, decimal-more}
+use Rattle.text.proofs.Laws.{puts-then, puts-as, decimal-few, decimal-more}
 use borrow.Fn.Kinds.{In}
 use borrow.Fn.PlainCycle.{Measures, is, falls, and}
-use Rattle.printout.proofs.put_decimal.Reads as put-decimal
-use Rattle.printout.proofs.put_decimal.Kinds as put-decimal-kinds
-use Rattle.printout.proofs.+put_decimal.Lts-put_decimal as put-decimal-lts
-use Rattle.printout.proofs.digit.Reads as digit-reads
-use Rattle.printout.proofs.put_byte.Reads as put-byte-reads
-use Rattle.printout.proofs.+put_decimal.{statement}
-use Rattle.printout.proofs.+put_decimal.Tie.{close}
+use Rattle.text.proofs.put_decimal.Reads as put-decimal
+use Rattle.text.proofs.put_decimal.Kinds as put-decimal-kinds
+use Rattle.text.proofs.+put_decimal.Lts-put_decimal as put-decimal-lts
+use Rattle.text.proofs.digit.Reads as digit-reads
+use Rattle.text.proofs.put_byte.Reads as put-byte-reads
+use Rattle.text.proofs.+put_decimal.{statement}
+use Rattle.text.proofs.+put_decimal.Tie.{close}
 
 abbrev μ-put-decimal : Measures 1 put-decimal-kinds.ps ℕ
 μ-put-decimal κs a = a .1 .1 .0
