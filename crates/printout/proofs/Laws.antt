@@ -11,7 +11,7 @@ use borrow.Author.Tests.{lt-ltb, le-ltb}
 use lib.ListN.{length, take, set, getD, length-append}
 use lib.Seq.{sets, take-suc, take-suc-set, length-take-le}
 use Rattle.memory.specs.Bytes.{leAt}
-use Rattle.card.proofs.LayoutLaws.{sets-append}
+use Rattle.big_endian.proofs.LayoutLaws.{sets-append}
 use Rattle.printout.specs.Printout.{firstWords, kernelWordsOf}
 use Rattle.printout.specs.Puts.{Puts}
 use Rattle.printout.specs.Text.{digitOf, hexDigits, decimalDigits, decimalOf}

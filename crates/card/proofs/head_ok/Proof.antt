@@ -11,6 +11,5 @@ pub head-ok-spec : {M : Type 1} → statement M
 head-ok-spec =
     tie.close
     (tie.spec
-    (λ c κs. search needs)
-    (λ c κs. search needs)
+    (λ c κs. search needs) (λ c κs. search needs)
     returns)

@@ -2,10 +2,10 @@ use native.Mathlib.Numerals.{add-one, add-two, add-three}
 use native.Mathlib.Nat.{div-one}
 use native.Mathlib.Omega.{arith}
 use lib.ListN.{length-set}
-use Rattle.card.specs.BigEndian.{beBytes}
+use Rattle.big_endian.specs.BigEndian.{beBytes}
 use borrow.Author.Needs.{needs}
-use Rattle.card.proofs.put_word.Statement.{statement}
-use Rattle.card.proofs.put_word.Tie as tie
+use Rattle.big_endian.proofs.put_word.Statement.{statement}
+use Rattle.big_endian.proofs.put_word.Tie as tie
 
 slice-write-t-2 : tie.Need-slice-write-t-2
 slice-write-t-2 c = simp length-set (omega arith)
@@ -24,16 +24,11 @@ pub put-word-spec : {M : Type 1} → statement M
 put-word-spec =
     tie.close
     (tie.spec
-    (λ c. search needs)
-    (λ c. search needs)
-    (λ c. search needs)
-    (λ c. search needs)
+    (λ c. search needs) (λ c. search needs) (λ c. search needs) (λ c. search needs)
     slice-write-t-2
-    (λ c. search needs)
-    (λ c. search needs)
+    (λ c. search needs) (λ c. search needs)
     slice-write-t-3
-    (λ c. search needs)
-    (λ c. search needs)
+    (λ c. search needs) (λ c. search needs)
     slice-write-t-4
     (λ c. search needs)
     returns)
