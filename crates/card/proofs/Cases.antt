@@ -6,7 +6,7 @@ use lib.ListN.{set, replicate, drop}
 use Rattle.warp.specs.declared.Launch.{Launch}
 use Rattle.warp.specs.Warp.{zeroLaunch}
 use Rattle.warp.specs.WellFormed.{fixedOkOf}
-use Rattle.card.specs.BigEndian.{beBytes}
+use Rattle.big_endian.specs.BigEndian.{beBytes}
 use Rattle.card.specs.Card.{cardSize, headOkAt, launchAt, cardOf, reading, readCardOf, writing, writeCardOf}
 
 abbrev pub example : Launch

@@ -13,9 +13,9 @@ use Rattle.warp.specs.WellFormed.{fixedOkOf, launchOkOf}
 use Rattle.warp.specs.Warp.{aligned}
 use Rattle.warp.specs.Facts.{FixedOk}
 use Rattle.warp.proofs.Formed.{fixed-ok}
-use Rattle.card.proofs.BigEndianLaws.{Bytes}
-use Rattle.card.specs.Layout.{Values, end, _▹_, valuesAt, bytesOf}
-use Rattle.card.proofs.LayoutLaws.{Each, InPlace, card-length, bytes-values, values-bytes}
+use Rattle.big_endian.proofs.BigEndianLaws.{Bytes}
+use Rattle.big_endian.specs.Layout.{Values, end, _▹_, valuesAt, bytesOf}
+use Rattle.big_endian.proofs.LayoutLaws.{Each, InPlace, layout-length, bytes-values, values-bytes}
 use Rattle.card.specs.Card.{layout, cardSize, cardLength, cardVersion, valuesOf, launchFrom, headOk, headOkAt, launchAt, cardOf, Reading, reading, readCardOf, Writing, writing, writeCardOf}
 use Rattle.card.proofs.CardLaws.{read-done, write-done, accepted}
 
@@ -27,7 +27,7 @@ CardWords l = Each (λ w x. x < 2 ^ 32) (valuesOf l)
 
 pub length-card : (l : Launch) → length (cardOf l) ≡ cardSize
 unfolding cardOf
-length-card l = card-length (valuesOf l)
+length-card l = layout-length (valuesOf l)
 
 -- an accepted launch's NUMT, NUMW and WID fit a byte
 fits : (l : Launch) → launchOkOf l ≡ true → CardWords l → InPlace (valuesOf l)

@@ -10,7 +10,7 @@ use Rattle.warp.specs.declared.Launch.{Launch}
 use Rattle.warp.specs.Warp.{zeroLaunch}
 use Rattle.warp.specs.WellFormed.{launchOkOf}
 use Rattle.card.specs.declared.ReadCard.{ReadCard}
-use Rattle.card.specs.Layout.{Values, end, _▹_, totalOf, valuesAt, bytesOf}
+use Rattle.big_endian.specs.Layout.{Values, end, _▹_, totalOf, valuesAt, bytesOf}
 
 -- 2 bytes length; version, NUMT, NUMW, WID, one byte each; then eleven 32-bit words
 abbrev pub layout : List ℕ

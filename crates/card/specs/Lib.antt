@@ -1,4 +1,1 @@
-pub mod BigEndian
-pub mod Layout
 pub mod Card
-pub mod Puts

@@ -1,17 +1,20 @@
 // The launch card, read and written.
 use answer::Answer;
 use answer::Refusal;
+use big_endian::byte_at;
+use big_endian::half_at;
+use big_endian::put_byte;
+use big_endian::put_half;
+use big_endian::put_word;
+use big_endian::word_at;
 use warp::Fixed;
 use warp::Launch;
 ghost use mathlib.Core.Path.{_≡_};
-ghost use Prim.Native.Nat.{_+_, _<_, _≤_};
 ghost use lib.ListN.{length};
-ghost use lib.Seq.{sets};
 ghost use Rattle.answer.specs.declared.Answer.the-variants.{Refused};
 ghost use Rattle.answer.specs.Answer.{numberOf};
 ghost use Rattle.warp.specs.Warp.{zeroLaunch};
-ghost use Rattle.card.specs.BigEndian.{beAt, beBytes};
-ghost use Rattle.card.specs.Puts.{putsAll, later};
+ghost use Rattle.big_endian.specs.Puts.{putsAll, later};
 ghost use Rattle.card.specs.Card.{valuesOf, cardSize, headOkAt, launchAt, readingOf, readCardOf, writing, writeCardOf};
 
 const CARD_SIZE: usize = 50;
@@ -23,37 +26,6 @@ const CARD_VERSION: u32 = 1;
 pub struct ReadCard {
     pub answer: Answer,
     pub launch: Launch,
-}
-
-fn wide(x: u8) -> u32
-    ensures { λ r. ⌜ (r ≡ x) × (r < 256) ⌝ }
-{
-    x as u32
-}
-
-fn byte_at(b: &[u8], at: usize) -> u32
-    requires { ⌜ at < length (now b) ⌝ }
-    ensures { λ r. ⌜ (r ≡ beAt 1 (now (b .entry)) at) × (r < 256) ⌝ }
-{
-    wide(b[at])
-}
-
-fn half_at(b: &[u8], at: usize) -> u32
-    requires { ⌜ at + 2 ≤ length (now b) ⌝ }
-    ensures { λ r. ⌜ (r ≡ beAt 2 (now (b .entry)) at) × (r < 65536) ⌝ }
-{
-    let high = byte_at(b, at);
-    let low = byte_at(b, at + 1);
-    high * 256 + low
-}
-
-fn word_at(b: &[u8], at: usize) -> u32
-    requires { ⌜ at + 4 ≤ length (now b) ⌝ }
-    ensures { λ r. ⌜ r ≡ beAt 4 (now (b .entry)) at ⌝ }
-{
-    let high = half_at(b, at);
-    let low = half_at(b, at + 2);
-    high * 65536 + low
 }
 
 fn head_ok(b: &[u8]) -> bool
@@ -118,31 +90,6 @@ pub fn read_card(bytes: &[u8]) -> ReadCard
         answer: Answer::Done,
         launch: l,
     }
-}
-
-fn put_byte(t: &mut [u8], at: usize, x: u32)
-    requires { ⌜ at < length (now t) ⌝ }
-    ensures { λ _. ⌜ now (t .exit) ≡ sets (now (t .entry)) at (beBytes 1 x) ⌝ }
-{
-    t[at] = (x % 256) as u8;
-}
-
-fn put_half(t: &mut [u8], at: usize, x: u32)
-    requires { ⌜ at + 2 ≤ length (now t) ⌝ }
-    ensures { λ _. ⌜ now (t .exit) ≡ sets (now (t .entry)) at (beBytes 2 x) ⌝ }
-{
-    t[at] = (x / 256 % 256) as u8;
-    t[at + 1] = (x % 256) as u8;
-}
-
-fn put_word(t: &mut [u8], at: usize, x: u32)
-    requires { ⌜ at + 4 ≤ length (now t) ⌝ }
-    ensures { λ _. ⌜ now (t .exit) ≡ sets (now (t .entry)) at (beBytes 4 x) ⌝ }
-{
-    t[at] = (x / 16777216 % 256) as u8;
-    t[at + 1] = (x / 65536 % 256) as u8;
-    t[at + 2] = (x / 256 % 256) as u8;
-    t[at + 3] = (x % 256) as u8;
 }
 
 // Length to entry PC; what is left to put is KNL to GIDZ.

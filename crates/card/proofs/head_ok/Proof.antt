@@ -8,4 +8,8 @@ unfolding headOkAt
 returns c = cc
 
 pub head-ok-spec : {M : Type 1} → statement M
-head-ok-spec = tie.close (tie.spec (λ c κs. search needs) (λ c κs. search needs) returns)
+head-ok-spec =
+    tie.close
+    (tie.spec
+    (λ c κs. search needs) (λ c κs. search needs)
+    returns)

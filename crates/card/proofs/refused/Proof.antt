@@ -3,4 +3,8 @@ use Rattle.card.proofs.refused.Statement.{statement}
 use Rattle.card.proofs.refused.Tie as tie
 
 pub refused-spec : {M : Type 1} → statement M
-refused-spec = tie.close (tie.spec (λ c κs. search needs) (λ c. rw (c .zero-launch .ensures)))
+refused-spec =
+    tie.close
+    (tie.spec
+    (λ c κs. search needs)
+    (λ c. rw (c .zero-launch .ensures)))

@@ -1,7 +1,7 @@
 use borrow.Author.Tests.{not-true, not-false}
 use mathlib.Core.Path.{sym, ap, _∙_}
 use Rattle.card.specs.Card.{valuesOf, cardOf, writing}
-use Rattle.card.proofs.LayoutLaws.{puts-all}
+use Rattle.big_endian.proofs.LayoutLaws.{puts-all}
 use Rattle.card.proofs.CardLaws.{write-total, write-range, write-done}
 use native.Mathlib.Omega.{arith}
 use borrow.Author.Needs.{needs}

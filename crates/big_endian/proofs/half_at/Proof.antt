@@ -4,8 +4,8 @@ use native.Mathlib.Numerals.{add-one}
 use native.Mathlib.Omega.{arith}
 use lib.ListN.{getD}
 use borrow.Author.Needs.{needs}
-use Rattle.card.proofs.half_at.Statement.{statement}
-use Rattle.card.proofs.half_at.Tie as tie
+use Rattle.big_endian.proofs.half_at.Statement.{statement}
+use Rattle.big_endian.proofs.half_at.Tie as tie
 
 returns : tie.Need-returns
 returns c =
@@ -14,4 +14,8 @@ returns c =
     (omega arith, omega arith)
 
 pub half-at-spec : {M : Type 1} → statement M
-half-at-spec = tie.close (tie.spec (λ c κs. search needs) (λ c. search needs) (λ c κs. search needs) (λ c. search needs) (λ c. search needs) returns)
+half-at-spec =
+    tie.close
+    (tie.spec
+    (λ c κs. search needs) (λ c. search needs) (λ c κs. search needs) (λ c. search needs) (λ c. search needs)
+    returns)

@@ -3,8 +3,8 @@ use Prim.Native.Nat.{ℕ, zero, suc, _+_}
 use mathlib.Core.List.{List}
 use lib.ListN.{drop}
 use lib.Seq.{sets}
-use Rattle.card.specs.BigEndian.{beBytes}
-use Rattle.card.specs.Layout.{Values, end, _▹_}
+use Rattle.big_endian.specs.BigEndian.{beBytes}
+use Rattle.big_endian.specs.Layout.{Values, end, _▹_}
 
 -- the target t after the values are put into it, from index i on
 abbrev pub putsAll : {ws : List ℕ} → Values ws → ℕ → List ℕ → List ℕ

@@ -4,8 +4,8 @@ use native.Mathlib.Numerals.{add-two}
 use native.Mathlib.Omega.{arith}
 use lib.ListN.{getD}
 use borrow.Author.Needs.{needs}
-use Rattle.card.proofs.word_at.Statement.{statement}
-use Rattle.card.proofs.word_at.Tie as tie
+use Rattle.big_endian.proofs.word_at.Statement.{statement}
+use Rattle.big_endian.proofs.word_at.Tie as tie
 
 returns : tie.Need-returns
 returns c =
@@ -15,4 +15,8 @@ returns c =
     omega arith
 
 pub word-at-spec : {M : Type 1} → statement M
-word-at-spec = tie.close (tie.spec (λ c κs. search needs) (λ c. search needs) (λ c κs. search needs) (λ c. search needs) (λ c. search needs) returns)
+word-at-spec =
+    tie.close
+    (tie.spec
+    (λ c κs. search needs) (λ c. search needs) (λ c κs. search needs) (λ c. search needs) (λ c. search needs)
+    returns)

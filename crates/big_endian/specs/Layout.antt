@@ -1,7 +1,7 @@
 -- Numbers side by side in bytes, each big-endian in its own width. A layout is the list of the widths.
 use Prim.Native.Nat.{ℕ, _+_}
 use mathlib.Core.List.{List, [], _∷_, _++_}
-use Rattle.card.specs.BigEndian.{beAt, beBytes}
+use Rattle.big_endian.specs.BigEndian.{beAt, beBytes}
 
 infixr 68 _▹_
 -- a value for each width of a layout

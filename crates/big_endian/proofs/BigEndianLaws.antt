@@ -6,7 +6,7 @@ use native.Mathlib.Omega.{arith}
 use native.Mathlib.Nat.{add-zero, add-suc, suc-add, mul-assoc, mul-comm, pow-suc, mul-le-mul-right, mul-add-div-right, mul-add-mod-self-right, div-eq-of-lt, mod-eq-of-lt, mod-lt, div-lt-iff-lt-mul, div-add-mod'}
 use lib.ListN.{length, drop, getD, length-append}
 use lib.Seq.{drop-cons, getD-append-seam}
-use Rattle.card.specs.BigEndian.{beAt, beBytes}
+use Rattle.big_endian.specs.BigEndian.{beAt, beBytes}
 
 -- the bytes of d are below 256
 abbrev pub Bytes : List ℕ → Type 0

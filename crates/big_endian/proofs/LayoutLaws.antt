@@ -6,10 +6,10 @@ use native.Mathlib.Omega.{arith}
 use lib.ListN.{length, drop, length-append, drop-of-length-le}
 use lib.Seq.{sets, sets-eq}
 use Rattle.text.proofs.Laws.{sets-append}
-use Rattle.card.specs.BigEndian.{beAt, beBytes}
-use Rattle.card.proofs.BigEndianLaws.{Bytes, length-be, bytes-at, at-bytes}
-use Rattle.card.specs.Layout.{Values, end, _▹_, totalOf, valuesAt, bytesOf}
-use Rattle.card.specs.Puts.{putsAll}
+use Rattle.big_endian.specs.BigEndian.{beAt, beBytes}
+use Rattle.big_endian.proofs.BigEndianLaws.{Bytes, length-be, bytes-at, at-bytes}
+use Rattle.big_endian.specs.Layout.{Values, end, _▹_, totalOf, valuesAt, bytesOf}
+use Rattle.big_endian.specs.Puts.{putsAll}
 
 -- P holds of each width and its value
 abbrev pub Each : (ℕ → ℕ → Type 0) → {ws : List ℕ} → Values ws → Type 0
@@ -20,9 +20,9 @@ Each P (_▹_ {w} x xs) = P w x × Each P xs
 abbrev pub InPlace : {ws : List ℕ} → Values ws → Type 0
 InPlace xs = Each (λ w x. x < 256 ^ w) xs
 
-pub card-length : {ws : List ℕ} (xs : Values ws) → length (bytesOf xs) ≡ totalOf ws
-card-length end = refl
-card-length (_▹_ {w} x xs) = length-append (beBytes w x) (bytesOf xs) ∙ ap₂ _+_ (length-be w x) (card-length xs)
+pub layout-length : {ws : List ℕ} (xs : Values ws) → length (bytesOf xs) ≡ totalOf ws
+layout-length end = refl
+layout-length (_▹_ {w} x xs) = length-append (beBytes w x) (bytesOf xs) ∙ ap₂ _+_ (length-be w x) (layout-length xs)
 
 -- writing what is read
 pub bytes-values : (d : List ℕ) → Bytes d → (ws : List ℕ) (i : ℕ) → i + totalOf ws ≡ length d → bytesOf (valuesAt ws d i) ≡ drop i d
@@ -50,5 +50,5 @@ puts-sets (_▹_ {w} x xs) i t =
 -- a target of just their size then holds their bytes
 pub puts-all : {ws : List ℕ} (xs : Values ws) (t : List ℕ) → length t ≡ totalOf ws → putsAll xs 0 t ≡ bytesOf xs
 puts-all {ws} xs t e =
-    puts-sets xs 0 t ∙ sets-eq (bytesOf xs) t 0 (let z = card-length xs in omega arith)
-    ∙ ap (λ (r : List ℕ). bytesOf xs ++ r) (drop-of-length-le t {i = 0 + length (bytesOf xs)} (let z = card-length xs in omega arith)) ∙ append-nil (bytesOf xs)
+    puts-sets xs 0 t ∙ sets-eq (bytesOf xs) t 0 (let z = layout-length xs in omega arith)
+    ∙ ap (λ (r : List ℕ). bytesOf xs ++ r) (drop-of-length-le t {i = 0 + length (bytesOf xs)} (let z = layout-length xs in omega arith)) ∙ append-nil (bytesOf xs)
