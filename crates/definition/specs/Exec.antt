@@ -38,7 +38,7 @@ effect (goes u) m = state u (m .vector) (m .bytes)
 effect (writes on r f) m = state (next (m .warp)) (writeLanes (fixedOf m .numt) on r f (m .vector)) (m .bytes)
 effect (stores e) m = state (next (m .warp)) (m .vector) e
 
--- y to rd, and on
+-- y goes to rd, then PC + 4
 abbrev pub puts : XReg → ℕ → State → Effect
 puts r y m = goes (next (writeX r y (m .warp)))
 

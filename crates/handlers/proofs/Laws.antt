@@ -57,7 +57,7 @@ pub given : (i : Instr) (r : XReg) (y c : ℕ) (g h x s v d h' x' : List ℕ) �
     → effectOf i (state (warpOf g h x s) v d) ≡ goes (putsIn r y (warpOf g h x s)) → Handles (execOf i) c (lists g h x s v d) (lists g h' x' s v d)
 given i r y c g h x s v d h' x' z q e k = rw z (moved i (putsIn r y) g h x s v d h' x' s q e k)
 
--- the file or the data changes, and on
+-- the vector file or the data changes, and the PC goes to PC + 4
 module _ (i : Instr) (g h x s v d h' : List ℕ) (z : length h ≡ movingCount) (n : length s ≡ flatCount) (eh : h' ≡ nextIn h) (e : first (refusalsOf i (state (warpOf g h x s) v d)) ≡ 0) where
   on-goes : Goes next g h x s h' x s
   on-goes = next-goes g h x s z n h' x next eh refl

@@ -35,6 +35,6 @@ pub record Handles (f : State → Outcome) (c : ℕ) (a b : Lists) : Type 0 wher
   pub sound : soundOf (a .moving) (a .splits) ≡ true → soundOf (b .moving) (b .splits) ≡ true
   pub goes : outcome c (lentState b) ≡ f (lentState a)
 
--- y to the register r, and on
+-- y goes to the scalar register r, and the PC to PC + 4
 abbrev pub putsIn : XReg → ℕ → Warp → Warp
 putsIn r y w = next (writeX r y w)

@@ -84,7 +84,7 @@ pub fn on(h: &mut [u32; MOVING], w: u32) -> u32
     answer::DONE
 }
 
-// y to rd, and on. It comes first: with x lent before it the prover's walk does not cover the call.
+// y goes to rd, and the PC to PC + 4. It is the first argument: with x lent before it the prover's walk does not cover the call.
 pub fn gives(y: u32, h: &mut [u32; MOVING], x: &mut [u32; SCALARS], w: u32) -> u32
     requires { ⌜ length (now h) ≡ movingCount ⌝ }
     ensures { λ c. ⌜ (c ≡ 0) × ((g s : List ℕ) → length s ≡ flatCount → Goes (putsIn (xOf (fieldsOf w .rd)) y) g (now (h .entry)) (now (x .entry)) s (now (h .exit)) (now (x .exit)) s) ⌝ }

@@ -15,7 +15,7 @@ pub both-true : (a b : Bool) → T (a && b) → T a × T b
 both-true true b t = (tt, t)
 both-true false b t = absurd t
 
--- a fact of each row at which the seeking can stop
+-- P holds of what f makes of each row whose code is k
 abbrev pub Rows : {A B : Type 0} → (B → Type 0) → (A → B) → ℕ → List (Row A) → Type 0
 Rows P f k [] = Unit {0}
 Rows P f k (r ∷ rs) = (k ≡ r .code → P (f (r .is))) × Rows P f k rs
@@ -26,7 +26,7 @@ stop :
 stop P f k r rest true e h₁ h₂ = h₁ (eqb-true k (r .code) e)
 stop P f k r rest false e h₁ h₂ = h₂
 
--- what each row makes has a property, and the other answer too: then what was found has it
+-- P holds of what is found at k, where it holds of the rows with that code and of the other answer
 pub found :
     {A B : Type 0} (P : B → Type 0) (f : A → B) (other : B) (k : ℕ) (t : List (Row A)) → P other → Rows P f k t → P (seek f other k t)
 found P f other k [] z h = z
@@ -37,12 +37,12 @@ pub rows-append :
 rows-append P f k [] u h g = g
 rows-append P f k (r ∷ rs) u h g = (h .0, rows-append P f k rs u (h .1) g)
 
--- a test of each row
+-- the test p holds of every row's content and code
 abbrev pub every-row : {A : Type 0} → (A → ℕ → Bool) → List (Row A) → Bool
 every-row p [] = true
 every-row p (r ∷ rs) = p (r .is) (r .code) && every-row p rs
 
--- each row of a table passes the test, and what passes makes a word that has what is wanted
+-- where every row passes the test p, and P holds of the word that such a row makes, P holds of each row's word
 pub rows-tested :
     {A : Type 0} (P : Instr → Type 0) (make : A → Fields → Instr) (p : A → ℕ → Bool) (c : Fields) (k : ℕ) (t : List (Row A))
     → T (every-row p t) → ((a : A) → T (p a k) → P (make a c)) → Rows P (on c) k (asWords make t)
@@ -74,7 +74,7 @@ past-from acc f other k [] u h = refl
 past-from acc f other k (r ∷ rs) u h =
     rw (ne-eqb k (r .code) (start (acc × (k ≡ r .code → ⊥)) k rs h .1)) (past-from (acc × (k ≡ r .code → ⊥)) f other k rs u h)
 
--- the last arm's answer: what the rows after the arms' say, or the other answer where there are none
+-- where k is none of t's codes, the rows u after t decide
 pub past :
     {A B : Type 0} (f : A → B) (other : B) (k : ℕ) (t u : List (Row A)) → NoneFrom (Unit {0}) k t
     → seek f other k u ≡ seek f other k (t ++ u)

@@ -14,7 +14,7 @@ use Rattle.isa.specs.Fields.{Fields}
 use Rattle.isa.specs.Table.{seek, pickRow, Words, wordAt, asWords, fixed}
 use Rattle.isa.proofs.Laws.{NoneFrom, past}
 
--- a choice of one thing
+-- both sides of the choice are the same
 either : {A : Type 0} (b : Bool) {a : A} → a ≡ cond b a a
 either true = refl
 either false = refl
@@ -28,7 +28,7 @@ pub at-last :
     {A : Type 0} (k : ℕ) (t : List (Row A)) (r : Row A) → NoneFrom (Unit {0}) k t → r .is ≡ pickRow (r .is) k (t ++ (r ∷ []))
 at-last k t r h = either (eqb k (r .code)) ∙ past (λ a. a) (r .is) k t (r ∷ []) h
 
--- a sum of fields is 0 where each is: what the code tests at once
+-- fields that must all be 0: the code tests their sum once
 pub fixed-two : (a b : ℕ) (i : Instr) → fixed (a + b) 0 i ≡ fixed a 0 (fixed b 0 i)
 fixed-two zero b i = ap (λ (n : ℕ). fixed n 0 i) (zero-add b)
 fixed-two (suc a) b i = rw (ne-eqb (suc a + b) 0 (λ e. omega arith), ne-eqb (suc a) 0 (λ e. omega arith))

@@ -88,7 +88,7 @@ ofImmediates =
     34 ⇒ immediateAs O.Add ∷ 35 ⇒ shiftAs O.Sll ∷ 36 ⇒ shiftAs O.Srl ∷ 37 ⇒ shiftAs O.Sra ∷ 38 ⇒ immediateAs O.Slt
     ∷ 39 ⇒ immediateAs O.Sltu ∷ 40 ⇒ immediateAs O.And ∷ 41 ⇒ immediateAs O.Or ∷ 42 ⇒ immediateAs O.Xor ∷ []
 
--- from here on, this and an op's number, which is under opLimit
+-- a vector operation's kind is vectorKinds plus the op's number, which is below opLimit
 abbrev pub vectorKinds : ℕ
 vectorKinds = 128
 

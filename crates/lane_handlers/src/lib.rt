@@ -240,7 +240,7 @@ pub fn vstore(
     )
 }
 
-// On, where every access lay inside.
+// The PC goes to PC + 4 where every access lay inside.
 pub fn on_if(inside: bool, h: &mut [u32; MOVING]) -> u32
     ensures { λ c. ⌜ (c ≡ cond inside 0 9) × (now (h .exit) ≡ cond inside (nextIn (now (h .entry))) (now (h .entry))) ⌝ }
 {

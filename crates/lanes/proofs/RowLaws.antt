@@ -92,7 +92,7 @@ each-numt m n step x h k =
     ap (λ (j : ℕ). eachLane j (bit m) step x) q
     ∙ each-idle (bit m) step x n (lanesMax - n) (λ l z. bit-above m n l h z)
 
--- a lane more in a mask
+-- one lane more in a mask
 pub mask-turn : (on : Lane → Bool) (l m w : ℕ) (t : Bool) → t ≡ on (lane l) → w ≡ maskStep t (lane l) m → m ≡ maskOf l on → w ≡ maskOf (l + 1) on
 mask-turn on l m w true e q h = each-on on (λ k z. z + 2 ^ k .0) 0 l m w (sym e) q h
 mask-turn on l m w false e q h = each-off on (λ k z. z + 2 ^ k .0) 0 l w (sym e) (q ∙ h)

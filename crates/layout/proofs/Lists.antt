@@ -27,12 +27,12 @@ whole (a ∷ h) = rw (shifted (length h) 0 a h) (ap (λ (l : List ℕ). a ∷ l)
 pub cells-are : (n : ℕ) (h : List ℕ) → length h ≡ n → h ≡ cells n 0 h
 cells-are n h z = whole h ∙ ap (λ (k : ℕ). cells k 0 h) z
 
--- with this a set and a getD of the moving words compute
+-- the moving words written out, so that set and getD compute on them
 pub seven : (h : List ℕ) → length h ≡ movingCount → h ≡ getD h 0 0 ∷ getD h 1 0 ∷ getD h 2 0 ∷ getD h 3 0 ∷ getD h 4 0 ∷ getD h 5 0 ∷ getD h 6 0 ∷ []
 unfolding cells
 seven h z = cells-are movingCount h z
 
--- what holds where the first split record is written out holds of all words that have one
+-- to show P of words that have a first split record, it is enough to show it where that record is written out
 pub record-first : (P : List ℕ → Type 0) → ((a b c d e : ℕ) (s : List ℕ) → P (a ∷ b ∷ c ∷ d ∷ e ∷ s)) → (s : List ℕ) → splitSize ≤ length s → P s
 record-first P f [] h = absurd (omega arith)
 record-first P f (a ∷ []) h = absurd (omega arith)

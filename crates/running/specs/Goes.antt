@@ -15,15 +15,15 @@ goIn p h = set h pcAt p
 abbrev pub nextIn : List ℕ → List ℕ
 nextIn h = goIn (addOf (pcIn h) 4) h
 
--- other splits, mask and PC
+-- the moving words with d open splits, the mask m and the PC p
 abbrev pub resumeIn : ℕ → ℕ → ℕ → List ℕ → List ℕ
 resumeIn d m p h = goIn p (set (set h depthAt d) maskAt m)
 
--- PRINT or RPC
+-- the moving words with y in CSR n, which is PRINT or RPC
 abbrev pub csrIn : ℕ → ℕ → List ℕ → List ℕ
 csrIn n y h = cond (isPrint n) (set h printAt y) (set h rpcAt y)
 
--- The warp that the words stand for goes as f says: h, x and s are h', x' and s' then, a warp's words again if they were.
+-- The words h, x and s become h', x' and s', and the warp that they stand for goes as f says; a warp's words stay a warp's.
 pub record Goes (f : Warp → Warp) (g h x s h' x' s' : List ℕ) : Type 0 where
   pub long : length h' ≡ movingCount
   pub room : length s' ≡ flatCount

@@ -21,7 +21,7 @@ use Rattle.warp.specs.Warp.{zeroSplit, aligned}
 use Rattle.warp.specs.WellFormed.{runningOf, splitOkOf, chainOf, isZero, allZero}
 use Rattle.warp.specs.Parked.{parkedIn}
 
--- a field that is an array of structs is known by the list of its elements' parts
+-- what the prover knows of an array of structs is the length of a list mapped from it
 pub mapped : {A B : Type 0} (f : A → B) (l : List A) (n : ℕ) → length (map f l) ≡ n → length l ≡ n
 mapped f l n e = sym (length-map l f) ∙ e
 

@@ -28,7 +28,6 @@ pub bench-decode-spec : {M : Type 1} → statement M
 bench-decode-spec =
     tie.close
     (tie.spec
-    (λ c κs. search needs)
-    (λ c. search needs)
+    (λ c κs. search needs) (λ c. search needs)
     returns
     returns-2)

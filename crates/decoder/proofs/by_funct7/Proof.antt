@@ -1,4 +1,3 @@
--- Each arm is a row.
 use mathlib.Core.List.{[], _∷_}
 use Rattle.answer.specs.Rows.{_⇒_}
 use Rattle.isa.specs.declared.Instr.the-variants.{Refused}

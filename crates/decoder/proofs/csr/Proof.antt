@@ -1,4 +1,3 @@
--- Each arm is a row, or rows that adjoin.
 use mathlib.Core.Path.{_∙_}
 use mathlib.Core.List.{[]}
 use native.Mathlib.Omega.{arith}

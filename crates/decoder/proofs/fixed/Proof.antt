@@ -1,4 +1,3 @@
--- The two cases.
 use borrow.Author.Tests.{eq-eqb, ne-eqb}
 use Rattle.isa.specs.Kinds.{rowOf}
 use Rattle.decoder.proofs.fixed.Statement.{statement}

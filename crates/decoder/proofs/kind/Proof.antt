@@ -1,4 +1,3 @@
--- The row of the commonest opcode, or another.
 use borrow.Author.Needs.{needs}
 use Rattle.isa.specs.Decode.{decodeOf}
 use Rattle.decoder.proofs.kind.Statement.{statement}

@@ -1,4 +1,3 @@
--- Funct3, then funct7: each row of the three tables.
 use mathlib.Core.Path.{_∙_}
 use mathlib.Core.List.{[], _∷_}
 use native.Mathlib.Omega.{arith}
@@ -14,14 +13,8 @@ unfolding rowOf opWord byFunct3
 op-spec =
     tie.close
     (tie.spec
-    (λ c κs. search needs)
-    (λ c κs. search needs)
-    (λ c κs. search needs)
-    (λ c κs. search needs)
-    (λ c κs. search needs)
-    (λ c κs. search needs)
-    (λ c κs. search needs)
-    (λ c κs. search needs)
+    (λ c κs. search needs) (λ c κs. search needs) (λ c κs. search needs) (λ c κs. search needs) (λ c κs. search needs) (λ c κs. search needs)
+    (λ c κs. search needs) (λ c κs. search needs)
     (λ c. c .by-funct7 .ensures (c .before .before .args .w) ∙ simp (c .before .match .keys1))
     (λ c. c .by-funct72 .ensures (c .before .before .args .w) ∙ simp (c .before .match .keys2))
     (λ c. c .by-funct73 .ensures (c .before .before .args .w) ∙ simp (c .before .match .keys3))

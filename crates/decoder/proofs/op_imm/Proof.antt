@@ -1,4 +1,3 @@
--- Each arm is a row.
 use mathlib.Core.Path.{_∙_}
 use mathlib.Core.List.{[], _++_}
 use borrow.Author.Needs.{needs}
@@ -16,8 +15,7 @@ unfolding rowOf opImmWord
 op-imm-spec =
     tie.close
     (tie.spec
-    (λ c κs. search needs)
-    (λ c κs. search needs)
+    (λ c κs. search needs) (λ c κs. search needs)
     (λ c. simp (c .match .keys1))
     (λ c. simp (c .match .keys2))
     (λ c. simp (c .match .keys3))

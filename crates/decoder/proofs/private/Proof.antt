@@ -1,4 +1,3 @@
--- Bit 31, then each arm is a row, or rows that adjoin.
 use mathlib.Core.Path.{_∙_}
 use mathlib.Core.List.{[], _∷_}
 use Prim.Native.Nat.{_/_}

@@ -1,4 +1,3 @@
--- Each arm is a row.
 use mathlib.Core.Path.{_∙_}
 use mathlib.Core.List.{[]}
 use borrow.Author.Needs.{needs}
@@ -18,8 +17,7 @@ stop-spec =
     tie.close
     (tie.spec
     (λ c. simp (ne-eqb _ _ (c .if1 .taken)))
-    (λ c κs. search needs)
-    (λ c κs. search needs)
+    (λ c κs. search needs) (λ c κs. search needs)
     (λ c. c .end-prg .ensures ∙ simp (c .before .match .keys1, c .before .before .if1 .left))
     (λ c. c .barrier .ensures ∙ simp (c .before .match .keys2, c .before .before .if1 .left))
     (λ c.

@@ -57,8 +57,7 @@ drive-spec =
     μ-loop
     loop-holds
     step-requires
-    (λ c. search needs)
-    (λ c. search needs)
+    (λ c. search needs) (λ c. search needs)
     loop-again
     (λ c. c .before .loop .inv .0 .vector)
     (λ c. c .before .loop .inv .0 .bytes)

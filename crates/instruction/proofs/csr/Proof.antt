@@ -1,4 +1,3 @@
--- The two forms.
 use native.Mathlib.Omega.{arith}
 use borrow.Author.Needs.{needs}
 use borrow.Author.Tests.{lt-ltb, le-ltb}
@@ -12,20 +11,13 @@ unfolding anyCsrWord
 csr-spec =
     tie.close
     (tie.spec
-    (λ c κs. search needs)
-    (λ c κs. search needs)
-    (λ c κs. search needs)
-    (λ c κs. search needs)
-    (λ c κs. search needs)
+    (λ c κs. search needs) (λ c κs. search needs) (λ c κs. search needs) (λ c κs. search needs) (λ c κs. search needs)
     (λ c.
     let p = c .before .before in
     let f = fieldsOf (p .before .before .before .before .args .w) in
     rw (lt-ltb (f .funct3) 4 (omega arith))
     (rw (p .before .csr-op .ensures, p .xd .ensures .0, c .before .xs1 .ensures .0, c .imm-i .ensures .0)))
-    (λ c κs. search needs)
-    (λ c κs. search needs)
-    (λ c κs. search needs)
-    (λ c κs. search needs)
+    (λ c κs. search needs) (λ c κs. search needs) (λ c κs. search needs) (λ c κs. search needs)
     (λ c.
     let p = c .before .before in
     let f = fieldsOf (p .before .before .before .before .args .w) in

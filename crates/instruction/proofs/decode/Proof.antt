@@ -1,4 +1,3 @@
--- The kind is the word's, and the instruction the kind's.
 use mathlib.Core.Path.{_∙_}
 use borrow.Author.Needs.{needs}
 use Rattle.instruction.proofs.decode.Statement.{statement}
@@ -8,6 +7,5 @@ pub decode-spec : {M : Type 1} → statement M
 decode-spec =
     tie.close
     (tie.spec
-    (λ c κs. search needs)
-    (λ c κs. search needs)
+    (λ c κs. search needs) (λ c κs. search needs)
     (λ c. c .instruction .ensures ∙ c .before .kind .ensures))

@@ -9,7 +9,7 @@ use Rattle.memory.proofs.Access.{inside-true}
 use Rattle.memory.proofs.load_at.Statement.{statement}
 use Rattle.memory.proofs.load_at.Tie as tie
 
--- the bytes lie inside, at an operation that is known
+-- an access at an operation that is known lies inside
 fits : (s : tie.Start) {k : LoadOp} → s .args .k ≡ k →
     let g = s .args in
     (g .base ≤ g .a) × (indexIn (memory (g .base) (g .d .now)) (g .a) + sizeOf k ≤ length (g .d .now))
@@ -52,14 +52,11 @@ load-at-spec =
     tie.close
     (tie.spec
     (λ c. fits (c .before) refl .0)
-    (λ c. search needs)
-    (λ c. search needs)
+    (λ c. search needs) (λ c. search needs)
     byte-at-requires
-    (λ c κs. search needs)
-    (λ c. search needs)
+    (λ c κs. search needs) (λ c. search needs)
     half-at-requires
-    (λ c κs. search needs)
-    (λ c. search needs)
+    (λ c κs. search needs) (λ c. search needs)
     word-at-requires
     (λ c. search needs)
     byte-at-requires-2

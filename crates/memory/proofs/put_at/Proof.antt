@@ -8,7 +8,7 @@ use Rattle.memory.proofs.Access.{inside-true}
 use Rattle.memory.proofs.put_at.Statement.{statement}
 use Rattle.memory.proofs.put_at.Tie as tie
 
--- the bytes lie inside, at an operation that is known
+-- an access at an operation that is known lies inside
 fits : (s : tie.Start) {k : StoreOp} → s .args .k ≡ k →
     let g = s .args in
     (g .base ≤ g .a) × (indexIn (memory (g .base) (g .d .now)) (g .a) + widthOf k ≤ length (g .d .now))
@@ -39,8 +39,7 @@ put-at-spec =
     tie.close
     (tie.spec
     (λ c. fits (c .before) refl .0)
-    (λ c. search needs)
-    (λ c. search needs)
+    (λ c. search needs) (λ c. search needs)
     put-byte-requires
     (λ c. search needs)
     put-half-requires

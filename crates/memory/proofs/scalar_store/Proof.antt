@@ -22,8 +22,7 @@ pub scalar-store-spec : {M : Type 1} → statement M
 scalar-store-spec =
     tie.close
     (tie.spec
-    (λ c κs. search needs)
-    (λ c κs. search needs)
+    (λ c κs. search needs) (λ c κs. search needs)
     (λ c κs. tested (c .before .before) ∙ c .before .if1 .taken)
     (λ c. search needs)
     returns

@@ -1,4 +1,3 @@
--- Each arm is a row.
 use mathlib.Core.Path.{_∙_}
 use mathlib.Core.List.{[]}
 use borrow.Author.Needs.{needs}
@@ -16,11 +15,7 @@ unfolding rowOf operandsWord
 operands-spec =
     tie.close
     (tie.spec
-    (λ c κs. search needs)
-    (λ c κs. search needs)
-    (λ c κs. search needs)
-    (λ c κs. search needs)
-    (λ c κs. search needs)
+    (λ c κs. search needs) (λ c κs. search needs) (λ c κs. search needs) (λ c κs. search needs) (λ c κs. search needs)
     (λ c. c .plain-vv .ensures ∙ simp (c .before .match .keys1))
     (λ c. c .plain-vi .ensures ∙ simp (c .before .match .keys2))
     (λ c. c .plain-vx .ensures ∙ simp (c .before .match .keys3))

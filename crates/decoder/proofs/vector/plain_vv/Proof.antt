@@ -1,4 +1,3 @@
--- A move, or a row of the table that has the form.
 use mathlib.Core.Path.{_≡_, _∙_}
 use mathlib.Core.List.{[], _∷_}
 use mathlib.Core.Logic.{⊎-elim}
@@ -16,8 +15,7 @@ unfolding rowOf plainWord sourceIn
 plain-vv-spec =
     tie.close
     (tie.spec
-    (λ c κs. search needs)
-    (λ c κs. search needs)
+    (λ c κs. search needs) (λ c κs. search needs)
     (λ c. c .fixed .ensures (c .before .before .args .w) ∙ simp (c .before .match .keys1, c .before .before .pre))
     (λ c. simp (c .match .keys2))
     (λ c.

@@ -1,4 +1,3 @@
--- A move, or a row of the table.
 use mathlib.Core.Path.{_∙_}
 use mathlib.Core.List.{[], _∷_}
 use native.Mathlib.Omega.{arith}
@@ -15,8 +14,7 @@ unfolding rowOf plainWord sourceIn
 plain-vx-spec =
     tie.close
     (tie.spec
-    (λ c κs. search needs)
-    (λ c κs. search needs)
+    (λ c κs. search needs) (λ c κs. search needs)
     (λ c. c .fixed .ensures (c .before .before .args .w) ∙ simp (c .before .match .keys1, c .before .before .pre))
     (λ c.
     let p = c .before .before in

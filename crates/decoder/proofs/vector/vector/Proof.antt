@@ -1,4 +1,3 @@
--- Vm is 1, or there is no kind.
 use borrow.Author.Needs.{needs}
 use borrow.Author.Tests.{ne-eqb}
 use Rattle.isa.specs.Vector.{vectorWord}

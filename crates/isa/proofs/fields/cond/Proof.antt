@@ -1,4 +1,3 @@
--- Each arm is a row, and the last row is the default.
 use lib.ListN.{take}
 use Rattle.isa.specs.Scalar.{conditions}
 use Rattle.isa.specs.Kinds.{condOf}

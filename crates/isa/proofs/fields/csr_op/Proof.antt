@@ -1,4 +1,3 @@
--- Each arm is a row of one of the two tables, whose last rows are the default.
 use lib.Dec.{ltb}
 use lib.ListN.{take}
 use Rattle.isa.specs.declared.CsrOp.the-variants as R

@@ -1,4 +1,3 @@
--- Each arm is a row, and the last row is the default.
 use lib.ListN.{take}
 use Rattle.isa.specs.Number.{everyOp, byNumber, opAt}
 use Rattle.isa.proofs.Tables.{at-last}

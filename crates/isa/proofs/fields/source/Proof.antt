@@ -1,4 +1,3 @@
--- Each arm is a row.
 use mathlib.Core.Path.{_∙_, ap}
 use mathlib.Core.List.{[], _∷_}
 use borrow.Author.Needs.{needs}
@@ -16,10 +15,7 @@ unfolding sourceIn
 source-spec =
     tie.close
     (tie.spec
-    (λ c κs. search needs)
-    (λ c κs. search needs)
-    (λ c κs. search needs)
-    (λ c κs. search needs)
+    (λ c κs. search needs) (λ c κs. search needs) (λ c κs. search needs) (λ c κs. search needs)
     (λ c. ap From.V (c .vs1 .ensures .0) ∙ simp (c .before .match .keys1))
     (λ c. ap From.V (c .vs12 .ensures .0) ∙ simp (c .before .match .keys2))
     (λ c. ap From.I (c .rs1 .ensures .0) ∙ simp (c .before .match .keys3))
