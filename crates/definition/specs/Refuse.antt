@@ -59,7 +59,7 @@ noCsr o n rs1 = not (isCsr n) || (writesOf o rs1 && not (isPrint n || isRpc n))
 abbrev pub astray : ℕ → Bool
 astray p = not (aligned p)
 
--- a scalar access of n bytes at a that isn't wholly inside data memory; an active lane's, lane l's at `at l`, that isn't
+-- a scalar access of n bytes at the address a isn't wholly inside data memory; that of some active lane l, at the address `at l`, isn't
 abbrev pub outside : ℕ → ℕ → State → Bool
 outside n a m = not (insideOf (memoryOf m) n a)
 
@@ -114,7 +114,7 @@ testsOf k m = stepTests k m ++ refusalsOf (instrAt k m) m
 abbrev pub lastOfStep : ℕ
 lastOfStep = 11
 
--- a launch: also any launch value is 1
+-- a launch: 1 for a size, and 1 for a launch value out of range
 abbrev pub launchTests : List ℕ → Launch → List ℕ → List ℕ → List (Row Bool)
 launchTests k l v d = 1 ⇒ not (runsOkOf (l .fixed) k v d) ∷ 1 ⇒ not (launchOkOf l) ∷ []
 

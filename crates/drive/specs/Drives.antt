@@ -1,4 +1,4 @@
--- What a loop over steps and a run do with a running warp's lent words: lists a before, b after (crate exec).
+-- What a loop over steps and a run do with a running warp's lent words: lists a before, b after (handlers/specs/Handles.antt).
 use Prim.Native.Nat.{ℕ, _≤_}
 use mathlib.Core.Path.{_≡_}
 use mathlib.Core.Bool.{true, false, cond}

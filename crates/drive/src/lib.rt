@@ -44,7 +44,7 @@ pub struct Drove {
     pub steps: u32,
 }
 
-// At most n steps on the lent words: the one loop over steps, which other loops call with a budget of 1. The fixed and the moving words are
+// At most n steps on the lent words: the one loop over steps; a single step is a run with a budget of 1. The fixed and the moving words are
 // copied into it, so that they stay in registers whoever calls (docs/SPEED.md).
 fn drive(
     moving: &mut [u32; MOVING],

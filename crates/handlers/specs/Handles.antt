@@ -1,4 +1,4 @@
--- What a function on a running warp's lent words does: g, h, x and s are the warp's words (crate running), v is the vector file and d the data.
+-- What a function on a running warp's lent words does: g, h, x and s are the warp's words (layout/specs/Words.antt), v is the vector file and d the data.
 use Prim.Native.Nat.{ℕ}
 use mathlib.Core.Path.{_≡_}
 use mathlib.Core.Bool.{true}

@@ -1,4 +1,4 @@
-// What a row of the scalar tables, of splits or of barriers does to the lent words: a handler a row.
+// The handlers of jumps, branches, scalar accesses, CSR words, FENCE, AUIPC, JOIN, SETRPC, ENDPRG and BARRIER on the lent words, and what other handlers read and write with.
 use isa::Instr;
 use isa::fields;
 use isa::fields::imm_i;
@@ -66,7 +66,7 @@ pub fn immediate(w: u32) -> u32
     word::extend(12, imm_i(w) as u32)
 }
 
-// A shift's amount, whose sign bit is 0.
+// A shift's amount: five bits, so that sign extension from twelve changes nothing.
 pub fn amount(w: u32) -> u32
     ensures { λ y. ⌜ y ≡ extendOf 12 (fieldsOf w .rs2) ⌝ }
 {
@@ -162,7 +162,7 @@ fn csr_operand(x: &[u32; SCALARS], w: u32) -> u32
     fields::rs1(w) as u32
 }
 
-// There is a CSR of this number, and the word may write it if it does.
+// There is a CSR of this number, and it is PRINT or RPC or the word doesn't write it.
 fn csr_ok(w: u32) -> bool
     ensures { λ t. ⌜ t ≡ not (noCsr (csrOpOf (fieldsOf w)) (immI (fieldsOf w)) (fieldsOf w .rs1)) ⌝ }
 {

@@ -152,7 +152,7 @@ fn lane_word(kind: u32, w: u32) -> Instr
     }
 }
 
-// One match, in four functions by default arm, as the rows stand in isa's specs/Kinds.antt.
+// One match in four functions, each the last arm of the one before, in the order of the rows in isa/specs/Kinds.antt.
 fn instruction(kind: u32, w: u32) -> Instr
     ensures { λ r. ⌜ r ≡ instrOf kind w ⌝ }
 {

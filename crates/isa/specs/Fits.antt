@@ -1,4 +1,4 @@
--- The fields of a word: each field of an instruction in its range. Every decoded instruction has them so, and its word is its own (crate encoding). What exec may assume of the fields that it reads is in the contracts of src/fields.rt.
+-- The range of each field of an instruction. Every decoded instruction is in these ranges (proofs/Decoded.antt), so that its word can be made again from it (crate encoding). What the code may assume of a field that it reads is in the contracts of src/fields.rt.
 use Prim.Native.Nat.{ℕ, _%_, _^_, _<_}
 use mathlib.Core.List.{List, [], _∷_, _++_}
 use mathlib.Core.Bool.{Bool, true, false, cond, _&&_, _||_}

@@ -24,7 +24,7 @@ use Rattle.isa.specs.Vector.{fromV, fromX, fromI}
 use Rattle.isa.specs.Ventus.{vbranchAs, setRpcAs, vstores, vloadAs, vstoreAs, ploadAs, pstoreAs}
 use Rattle.isa.specs.Number.{opAt}
 
--- what funct3 says within a kind; the last row where it says nothing
+-- the condition or operation that funct3 names; where it names none, the table's last
 unfoldable pub condOf : Fields → Cond
 condOf c = pickRow C.Geu (c .funct3) conditions
 
@@ -37,7 +37,7 @@ storeOpOf c = pickRow S.W (c .funct3) stores
 unfoldable pub laneStoreOpOf : Fields → StoreOp
 laneStoreOpOf c = pickRow S.W (c .funct3) vstores
 
--- a CSR word: below 100 its operand is a register, else rs1 itself
+-- a CSR word: where funct3 is below 0b100 its operand is the word of register rs1, else the field rs1 itself
 unfoldable pub csrOpOf : Fields → CsrOp
 csrOpOf c = cond (ltb (c .funct3) 0b100) (pickRow R.Rc (c .funct3) csrOps) (pickRow R.Rc (c .funct3) csrImmediates)
 

@@ -73,7 +73,7 @@ fn private(g: &[u32; FIXED]) -> Private
 
 // ---- lane by lane
 
-// The operand is taken apart here: handed on as one value, it makes every scalar step a fifth slower (docs/SPEED.md).
+// The operand is taken apart here: handed on as one value, it makes every scalar step a quarter slower (docs/SPEED.md).
 pub fn vector(
     h: &mut [u32; MOVING],
     g: &[u32; FIXED],
@@ -186,7 +186,8 @@ pub fn vbranch(
     answer::DONE
 }
 
-// ---- lane accesses, plain or private; h is not lent, since these stay functions of their own
+// ---- lane accesses, plain or private
+// The compiler leaves these two as calls; lent the moving words h, they would keep them in memory for the whole loop (docs/SPEED.md).
 
 pub fn vload(
     space: Space,

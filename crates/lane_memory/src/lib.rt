@@ -65,7 +65,7 @@ fn address_row(space: Space, p: Private, v: &[u32], r: VReg, off: u16, n: usize)
     o
 }
 
-// The same loop at a space that is known, so that each arm is compiled to vector code of its own.
+// Each arm calls the loop with its space as a constant, so that the compiler makes a vector loop of each.
 pub fn addresses(space: Space, p: Private, v: &[u32], r: VReg, off: u16, n: usize) -> [u32; LANES]
     requires { ⌜ (length (now v) ≡ fileWords) × (r .0 < registers) × (off < offsetLimit space) × (n ≤ lanesMax) ⌝ }
     ensures { λ o. ⌜ RowOf n (laneAddress space p (now (v .entry)) r off) o ⌝ }
@@ -120,7 +120,7 @@ fn fetch(
     }
 }
 
-// The same loop at an operation that is known.
+// Each arm calls the loop with its operation as a constant.
 fn fetch_op(
     d: &[u8],
     base: u32,
@@ -164,7 +164,7 @@ fn store(
     }
 }
 
-// The same loop at a width that is known.
+// Each arm calls the loop with its width as a constant.
 fn store_op(
     d: &mut [u8],
     base: u32,

@@ -1,4 +1,4 @@
-// An operation in every lane, at an operation that is known.
+// An operation in every lane: a match on the operation, each arm the loop of crate lanes.
 use isa::VReg;
 use lanes::LANES;
 use lanes::Operand;
@@ -14,7 +14,7 @@ ghost use Rattle.lanes.specs.Mask.{bit};
 ghost use Rattle.lanes.specs.Lanes.{lanesMax, registers, fileWords, opLane, writeLanes};
 ghost use Rattle.lanes.specs.Rows.{OperandOk, mapLane};
 
-// The loop at an operation that is known, so that each arm is compiled to code of its own.
+// Each arm calls the loop with its operation as a constant, so that the compiler makes a vector loop of each.
 fn map_op(op: Op, v: &mut [u32], mask: u32, d: VReg, n: usize, x: &[u32; LANES], y: &[u32; LANES])
     requires { ⌜ (length (now v) ≡ fileWords) × (d .0 < registers) × (n ≤ lanesMax) ⌝ }
     ensures { λ _. ⌜ now (v .exit) ≡ writeLanes n (bit mask) d (mapLane op (now (x .entry)) (now (y .entry))) (now (v .entry)) ⌝ }

@@ -190,7 +190,7 @@ fn hold(c: Cond, n: usize, a: &[u32; LANES], b: &[u32; LANES]) -> u32
     out
 }
 
-// The loop at a compare that is known.
+// Each arm calls the loop with its compare as a constant, so that the compiler makes a vector loop of each.
 fn hold_op(c: Cond, n: usize, a: &[u32; LANES], b: &[u32; LANES]) -> u32
     requires { ⌜ n ≤ lanesMax ⌝ }
     ensures { λ r. ⌜ r ≡ maskOf n (holdsLane c (now (a .entry)) (now (b .entry))) ⌝ }

@@ -42,7 +42,7 @@ isState t = eqb (length t) stateWords
 
 -- ---- the warp that words stand for
 
--- a bit of the warp is a word, 0 or 1
+-- ended, waiting and a phase as words: whether one is set, and whether it is 0 or 1 at all
 abbrev pub isSet : ℕ → Bool
 isSet n = not (eqb n 0)
 

@@ -54,7 +54,7 @@ pub fn width(k: StoreOp) -> usize
     }
 }
 
-// How many places w bytes can have in len bytes.
+// At how many indexes an access of w bytes can begin in len bytes.
 fn room(len: usize, w: usize) -> u32
     requires { ⌜ (len ≤ dataLimit) × (w ≤ 4) ⌝ }
     ensures { λ r. ⌜ r ≡ len + 1 - w ⌝ }
@@ -65,7 +65,7 @@ fn room(len: usize, w: usize) -> u32
     0
 }
 
-// The access rule. An address below the base wraps to a place past every room.
+// The access rule in one compare: of an address below the base, the wrapped difference is past every index where an access can begin.
 pub fn inside(d: &[u8], base: u32, w: usize, a: u32) -> bool
     requires { ⌜ MemoryOk (memory base (now d)) × (1 ≤ w) × (w ≤ 4) ⌝ }
     ensures { λ r. ⌜ r ≡ insideOf (memory base (now (d .entry))) w a ⌝ }

@@ -80,7 +80,7 @@ pub fn link(h: &mut [u32; MOVING], x: &mut [u32; SCALARS], rd: XReg, p: u32)
 
 // ---- splits
 
-// The warp goes on with other splits, mask and PC.
+// Sets how many splits are open, the mask and the PC.
 fn resume(h: &mut [u32; MOVING], depth: u32, mask: u32, pc: u32)
     ensures { λ _. ⌜ now (h .exit) ≡ resumeIn depth mask pc (now (h .entry)) ⌝ }
 {
@@ -223,7 +223,7 @@ fn csr_put(h: &mut [u32; MOVING], n: u16, y: u32)
     }
 }
 
-// A CSR word whose field rs1 is rs1 and whose operand is y.
+// CSR n goes to rd, and where the word writes, the CSR changes by the operand y; then PC + 4.
 pub fn csr(
     h: &mut [u32; MOVING],
     g: &[u32; FIXED],

@@ -63,6 +63,6 @@ csrNew Rw old y = y
 csrNew Rs old y = bitOr old y
 csrNew Rc old y = old - bitAnd old y
 
--- CSR n goes to rd as it was, and changes by the operand y, which field rs1 names or is
+-- a CSR word: rd gets the old value of CSR n, and the CSR its new one; y is the operand, the word of register rs1 or, in the immediate forms, the field rs1 itself
 unfoldable pub csrDone : CsrOp → ℕ → XReg → ℕ → ℕ → Warp → Warp
 csrDone op n rd rs1 y w = next (writeX rd (csrAt n w) (cond (writesOf op rs1) (withCsr n (csrNew op (csrAt n w) y) w) w))

@@ -198,7 +198,7 @@ pub fn rem(a: u32, b: u32) -> u32
     word(value(a) % value(b))
 }
 
-// The one dispatcher, for scalar registers and for each lane.
+// An operation by its variant, for the loops over lanes; a scalar word calls the operation's own function.
 pub fn apply(op: Op, a: u32, b: u32) -> u32
     ensures { λ r. ⌜ r ≡ applyOf op a b ⌝ }
 {

@@ -5,8 +5,12 @@ use borrow.Author.Needs.{needs}
 use Rattle.capi.proofs.bench_launch.Statement.{statement}
 use Rattle.capi.proofs.bench_launch.Tie as tie
 
--- what the card says
-card-is : (c : tie.After-number) → reading (c .number .result) (c .before .read-card .result .launch) ≡ readCardOf (c .before .before .before .before .before .before .before .args .card .now)
+abbrev start : tie.After-number → tie.Start
+start c =
+    let four = c .before .before .before .before in
+    four .before .before .before
+
+card-is : (c : tie.After-number) → reading (c .number .result) (c .before .read-card .result .launch) ≡ readCardOf (start c .args .card .now)
 card-is c = read-as _ (c .before .read-card .result) _ (c .number .ensures) (c .before .read-card .ensures)
 
 returns : tie.Need-returns

@@ -29,7 +29,8 @@ run-words-requires c κs =
 abbrev run : tie.After-put-arg → tie.After-run-words
 run c =
     let four = c .before .before .before .before in
-    four .before .before .before .before .before
+    let eight = four .before .before .before .before in
+    eight .before
 
 returns : tie.Need-returns
 returns c =

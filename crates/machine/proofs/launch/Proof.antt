@@ -11,8 +11,12 @@ use Rattle.machine.proofs.launch.Tie as tie
 returns : tie.Need-returns
 returns c = rw (c .zero-warp .ensures) (sym (launch-size _ _ _ _ (sym (c .before .before .runs-ok .ensures) ∙ not-true _ (c .before .if1 .taken))))
 
--- the sizes are right
-sized : (c : tie.Else1) → (let a = c .before .before .before .before .before .before .before .args in runsOkOf (a .l .fixed) (a .kernel .now) (a .vector .now) (a .bytes .now)) ≡ true
+abbrev start : tie.Else1 → tie.Start
+start c =
+    let four = c .before .before .before .before in
+    four .before .before .before
+
+sized : (c : tie.Else1) → (let a = start c .args in runsOkOf (a .l .fixed) (a .kernel .now) (a .vector .now) (a .bytes .now)) ≡ true
 sized c = sym (c .before .runs-ok .ensures) ∙ not-false _ (c .if1 .left)
 
 returns-2 : tie.Need-returns-2

@@ -30,8 +30,13 @@ returns-2 c =
       omega arith,
     )
 
--- the files are taken
-taken : (c : tie.Else2) → (let a = c .before .before .before .before .before .before .before .before .before .before .before .args in filesOkOf (a .kernel .now) (a .bytes .now)) ≡ true
+abbrev start : tie.Else2 → tie.Start
+start c =
+    let four = c .before .before .before .before in
+    let eight = four .before .before .before .before in
+    eight .before .before .before
+
+taken : (c : tie.Else2) → (let a = start c .args in filesOkOf (a .kernel .now) (a .bytes .now)) ≡ true
 taken c = sym (c .before .files-ok .ensures) ∙ not-false _ (c .if2 .left)
 
 put-words-requires : tie.Need-put-words-requires

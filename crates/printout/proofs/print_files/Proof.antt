@@ -11,8 +11,13 @@ use Rattle.printout.proofs.print_files.Tie as tie
 returns : tie.Need-returns
 returns c = ((omega arith, refl), print-short _ _ _ _ _ (sym (c .before .buffers-ok .ensures) ∙ not-true _ (c .if1 .taken)))
 
--- the buffers suffice
-enough : (c : tie.Else1) → (let a = c .before .before .before .before .before .before .before .before .before .args in buffersOkOf (a .vector .now) (a .out .now)) ≡ true
+abbrev start : tie.Else1 → tie.Start
+start c =
+    let four = c .before .before .before .before in
+    let eight = four .before .before .before .before in
+    eight .before
+
+enough : (c : tie.Else1) → (let a = start c .args in buffersOkOf (a .vector .now) (a .out .now)) ≡ true
 enough c = sym (c .before .buffers-ok .ensures) ∙ not-false _ (c .if1 .left)
 
 print-card-requires : tie.Need-print-card-requires
@@ -24,7 +29,7 @@ returns-2 c =
     let print = four .before .before in
     let put = print .print-card .ensures in
     let left = print .before .before .before .before in
-    let a = left .before .before .before .before .before .before .before .before .before .args in
+    let a = start left .args in
     (counted (a .out .now) _ _ _ _ (reportOf (a .card .now) (a .kernel .now) (a .vector .now) (a .bytes .now)) (put .0) (put .1) (buffer-room _ _ (enough left)), put .0 ∙ print-done _ _ _ _ _ (enough left))
 
 pub print-files-spec : {M : Type 1} → statement M

@@ -17,7 +17,8 @@ put-five-lines-requires c κs =
     let four = c .before .before .before .before in
     let eight = four .before .before .before .before in
     let test = eight .before .before .before .before in
-    omega (arith, test .before .before .before .before .before .before .before .before .before .before .before .pre)
+    let start = test .before .before .before .before .before .before .before .before .before .before .before in
+    omega (arith, start .pre)
 
 returns-2 : tie.Need-returns-2
 returns-2 c =

@@ -12,8 +12,8 @@ returns c =
     let mask = splits .before .before .before .before .before in
     let pc = mask .before .before .before .before .before in
     let steps = pc .before .before .before .before .before in
-    let code = steps .before .before .before .before .before .put-code-line .ensures in
-    let four = puts-then (puts-then (puts-then (code .0) (steps .put-decimal-line .ensures .0)) (pc .put-hex-line .ensures .0)) (mask .put-hex-line2 .ensures .0) in
+    let code = steps .before .before .before .before .before in
+    let four = puts-then (puts-then (puts-then (code .put-code-line .ensures .0) (steps .put-decimal-line .ensures .0)) (pc .put-hex-line .ensures .0)) (mask .put-hex-line2 .ensures .0) in
     (puts-then four (splits .put-decimal-line2 .ensures .0), omega arith)
 
 pub put-five-lines-spec : {M : Type 1} → statement M
