@@ -8,7 +8,8 @@ use Rattle.answer.specs.Rows.{first}
 use Rattle.lanes.specs.Lanes.{fileWords}
 use Rattle.warp.specs.declared.Launch.{Launch}
 use Rattle.warp.specs.declared.Warp.{Warp}
-use Rattle.warp.specs.Warp.{scalarCount, splitCount, zeroSplit, zeroWarp, withStop, Answered, answered}
+use Rattle.isa.specs.Bounds.{scalarRegisters}
+use Rattle.warp.specs.Warp.{splitCount, zeroSplit, zeroWarp, withStop, Answered, answered}
 use Rattle.definition.specs.State.{State, state, Outcome, outcome, unless}
 use Rattle.definition.specs.Refuse.{stateTests, launchTests, releaseTests}
 use Rattle.definition.specs.Step.{stepOf}
@@ -17,7 +18,7 @@ use Rattle.definition.specs.Step.{stepOf}
 abbrev pub launchedOf : Launch → Warp
 launchedOf l =
     record {
-      x = replicate scalarCount 0;
+      x = replicate scalarRegisters 0;
       splits = replicate splitCount zeroSplit;
       depth = 0;
       pc = l .entry;

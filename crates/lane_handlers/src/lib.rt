@@ -33,7 +33,7 @@ ghost use Rattle.isa.specs.Kinds.{sourceIn};
 ghost use Rattle.lanes.specs.Rows.{OperandOk};
 ghost use Rattle.memory.specs.Memory.{memory, MemoryOk};
 ghost use Rattle.memory.specs.Address.{offsetLimit};
-ghost use Rattle.warp.specs.Warp.{maxThreads};
+ghost use Rattle.lanes.specs.Lanes.{lanesMax};
 ghost use Rattle.warp.specs.Facts.{FixedOk};
 ghost use Rattle.layout.specs.Words.{flatCount, maskIn, depthIn, fixedIn, warpOf};
 ghost use Rattle.running.specs.Goes.{nextIn};
@@ -167,7 +167,7 @@ pub fn vbranch(
     v: &[u32],
     w: u32,
 ) -> u32
-    requires { ⌜ Lanes (now g) (now h) (now v) × (length (now s) ≡ flatCount) × (depthIn (now h) + ones (maskIn (now h)) ≤ maxThreads) ⌝ }
+    requires { ⌜ Lanes (now g) (now h) (now v) × (length (now s) ≡ flatCount) × (depthIn (now h) + ones (maskIn (now h)) ≤ lanesMax) ⌝ }
     ensures { λ c. ⌜ ((x d : List ℕ) → Handles (execOf (Instr.VBranch (condOf (fieldsOf w)) (vOf (fieldsOf w .rs1)) (vOf (fieldsOf w .rs2)) (immB (fieldsOf w)))) c (lists (now (g .entry)) (now (h .entry)) x (now (s .entry)) (now (v .entry)) d) (lists (now (g .entry)) (now (h .exit)) x (now (s .exit)) (now (v .entry)) d)) ⌝ }
 {
     let e = lanes::else_mask(

@@ -18,7 +18,8 @@ ghost use Prim.Native.Nat.{_^_, _<_, _≤_};
 ghost use lib.ListN.{length};
 ghost use Rattle.isa.specs.declared.Space.the-variants as spaces;
 ghost use Rattle.lanes.specs.Mask.{bit};
-ghost use Rattle.lanes.specs.Lanes.{lanesMax, registers, fileWords, laneOf, writeLanes, maskOf};
+ghost use Rattle.isa.specs.Bounds.{vectorRegisters};
+ghost use Rattle.lanes.specs.Lanes.{lanesMax, fileWords, laneOf, writeLanes, maskOf};
 ghost use Rattle.lanes.specs.Rows.{at, RowOf, RowOn};
 ghost use Rattle.memory.specs.Memory.{memory, MemoryOk, sizeOf, widthOf, insideOf, loadOf};
 ghost use Rattle.memory.specs.Address.{privateOf, addressOf, laneAddress, offsetLimit};
@@ -52,7 +53,7 @@ fn address(space: Space, p: Private, x: u32, off: u16, l: Lane) -> u32
 
 // The addresses of the lanes below n, over register r.
 fn address_row(space: Space, p: Private, v: &[u32], r: VReg, off: u16, n: usize) -> [u32; LANES]
-    requires { ⌜ (length (now v) ≡ fileWords) × (r .0 < registers) × (off < offsetLimit space) × (n ≤ lanesMax) ⌝ }
+    requires { ⌜ (length (now v) ≡ fileWords) × (r .0 < vectorRegisters) × (off < offsetLimit space) × (n ≤ lanesMax) ⌝ }
     ensures { λ o. ⌜ RowOf n (laneAddress space p (now (v .entry)) r off) o ⌝ }
 {
     let mut o = [0u32; LANES];
@@ -67,7 +68,7 @@ fn address_row(space: Space, p: Private, v: &[u32], r: VReg, off: u16, n: usize)
 
 // Each arm calls the loop with its space as a constant, so that the compiler makes a vector loop of each.
 pub fn addresses(space: Space, p: Private, v: &[u32], r: VReg, off: u16, n: usize) -> [u32; LANES]
-    requires { ⌜ (length (now v) ≡ fileWords) × (r .0 < registers) × (off < offsetLimit space) × (n ≤ lanesMax) ⌝ }
+    requires { ⌜ (length (now v) ≡ fileWords) × (r .0 < vectorRegisters) × (off < offsetLimit space) × (n ≤ lanesMax) ⌝ }
     ensures { λ o. ⌜ RowOf n (laneAddress space p (now (v .entry)) r off) o ⌝ }
 {
     match space {
@@ -195,7 +196,7 @@ pub fn load_lanes(
     o: &[u32; LANES],
     vd: VReg,
 ) -> bool
-    requires { ⌜ (length (now v) ≡ fileWords) × (vd .0 < registers) × (n ≤ lanesMax) × (mask < 2 ^ n) × MemoryOk (memory base (now d)) ⌝ }
+    requires { ⌜ (length (now v) ≡ fileWords) × (vd .0 < vectorRegisters) × (n ≤ lanesMax) × (mask < 2 ^ n) × MemoryOk (memory base (now d)) ⌝ }
     ensures { λ t. ⌜ (t ≡ allInside n (bit mask) (memory base (now (d .entry))) (sizeOf k) (at (now (o .entry)))) × (now (v .exit) ≡ cond t (writeLanes n (bit mask) vd (λ l. loadOf k (memory base (now (d .entry))) (at (now (o .entry)) l)) (now (v .entry))) (now (v .entry))) ⌝ }
 {
     if all_inside(d, base, size(k), mask, n, o) {
@@ -218,7 +219,7 @@ pub fn store_lanes(
     o: &[u32; LANES],
     src: VReg,
 ) -> bool
-    requires { ⌜ (length (now v) ≡ fileWords) × (src .0 < registers) × (n ≤ lanesMax) × (mask < 2 ^ n) × MemoryOk (memory base (now d)) ⌝ }
+    requires { ⌜ (length (now v) ≡ fileWords) × (src .0 < vectorRegisters) × (n ≤ lanesMax) × (mask < 2 ^ n) × MemoryOk (memory base (now d)) ⌝ }
     ensures { λ t. ⌜ (t ≡ allInside n (bit mask) (memory base (now (d .entry))) (widthOf k) (at (now (o .entry)))) × (now (d .exit) ≡ cond t (storeLanes n (bit mask) k (at (now (o .entry))) (laneOf (now (v .entry)) src) (memory base (now (d .entry)))) (now (d .entry))) ⌝ }
 {
     if all_inside(d, base, width(k), mask, n, o) {

@@ -11,12 +11,13 @@ ghost use mathlib.Core.Path.{_≡_};
 ghost use Prim.Native.Nat.{_^_, _<_, _≤_};
 ghost use lib.ListN.{length};
 ghost use Rattle.lanes.specs.Mask.{bit};
-ghost use Rattle.lanes.specs.Lanes.{lanesMax, registers, fileWords, opLane, writeLanes};
+ghost use Rattle.isa.specs.Bounds.{vectorRegisters};
+ghost use Rattle.lanes.specs.Lanes.{lanesMax, fileWords, opLane, writeLanes};
 ghost use Rattle.lanes.specs.Rows.{OperandOk, mapLane};
 
 // Each arm calls the loop with its operation as a constant, so that the compiler makes a vector loop of each.
 fn map_op(op: Op, v: &mut [u32], mask: u32, d: VReg, n: usize, x: &[u32; LANES], y: &[u32; LANES])
-    requires { ⌜ (length (now v) ≡ fileWords) × (d .0 < registers) × (n ≤ lanesMax) ⌝ }
+    requires { ⌜ (length (now v) ≡ fileWords) × (d .0 < vectorRegisters) × (n ≤ lanesMax) ⌝ }
     ensures { λ _. ⌜ now (v .exit) ≡ writeLanes n (bit mask) d (mapLane op (now (x .entry)) (now (y .entry))) (now (v .entry)) ⌝ }
 {
     match op {
@@ -54,7 +55,7 @@ fn map_op(op: Op, v: &mut [u32], mask: u32, d: VReg, n: usize, x: &[u32; LANES],
 
 // The operation into register d, in each lane of the mask. A constant count is faster, and no lane from n on is in the mask.
 pub fn op_lanes(v: &mut [u32], mask: u32, n: usize, op: Op, d: VReg, a: VReg, b: Operand)
-    requires { ⌜ (length (now v) ≡ fileWords) × (d .0 < registers) × (a .0 < registers) × OperandOk b × (n ≤ lanesMax) × (mask < 2 ^ n) ⌝ }
+    requires { ⌜ (length (now v) ≡ fileWords) × (d .0 < vectorRegisters) × (a .0 < vectorRegisters) × OperandOk b × (n ≤ lanesMax) × (mask < 2 ^ n) ⌝ }
     ensures { λ _. ⌜ now (v .exit) ≡ writeLanes n (bit mask) d (opLane op (now (v .entry)) a b) (now (v .entry)) ⌝ }
 {
     let x = row(v, a);

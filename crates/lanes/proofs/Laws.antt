@@ -18,7 +18,8 @@ use Rattle.lanes.specs.declared.Operand.{Operand}
 use Rattle.lanes.specs.declared.Operand.the-variants.{Reg, Word}
 use Rattle.lanes.specs.declared.Lane.{Lane}
 use Rattle.lanes.specs.Mask.{lane}
-use Rattle.lanes.specs.Lanes.{lanesMax, registers, fileWords, slotOf, laneOf, operandOf, opLane, stepIf, eachLane, writeLanes, allLanes, okIf, valueOf, uniformOf}
+use Rattle.isa.specs.Bounds.{vectorRegisters}
+use Rattle.lanes.specs.Lanes.{lanesMax, fileWords, slotOf, laneOf, operandOf, opLane, stepIf, eachLane, writeLanes, allLanes, okIf, valueOf, uniformOf}
 
 -- a lane below the next count is the newest or was below before
 pub newest : {k : Lane} {n : ℕ} → k .0 < suc n → (k ≡ lane n) ⊎ (k .0 < n)
@@ -107,7 +108,7 @@ module _ (on : Lane → Bool) (d : VReg) (f : Lane → ℕ) (v : List ℕ) where
       (λ l u p q e. (e .0, λ z. ⊎-elim (λ w. absurd (true≢false (sym t ∙ ap on w ∙ q))) (λ w. e .1 w) (newest z))) .1 h
 
 -- a word after a write: f's in a written lane of d, else the one before
-module _ (n : ℕ) (hn : n ≤ lanesMax) (d : VReg) (hd : d .0 < registers) (l : Lane) (hl : l .0 < lanesMax) where
+module _ (n : ℕ) (hn : n ≤ lanesMax) (d : VReg) (hd : d .0 < vectorRegisters) (l : Lane) (hl : l .0 < lanesMax) where
   pub write-lane : (on : Lane → Bool) (f : Lane → ℕ) (v : List ℕ) → length v ≡ fileWords → (r : VReg)
       → laneOf (writeLanes n on d f v) r l ≡ cond (ltb (l .0) n && (on l && eqb (r .0) (d .0))) (f l) (laneOf v r l)
   write-lane on f v long r = by-case (ltb (l .0) n) (on l) (eqb (r .0) (d .0)) refl refl refl

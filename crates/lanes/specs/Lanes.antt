@@ -14,15 +14,12 @@ use Rattle.lanes.specs.declared.Lane.{Lane}
 use Rattle.lanes.specs.declared.Operand.{Operand}
 use Rattle.lanes.specs.declared.Operand.the-variants.{Reg, Word}
 
--- the most lanes of a warp, the count of vector registers, and the words of the file that has them all
+-- the most lanes of a warp, and the words of a vector file
 abbrev pub lanesMax : ℕ
 lanesMax = 32
 
-abbrev pub registers : ℕ
-registers = vectorRegisters
-
 abbrev pub fileWords : ℕ
-fileWords = registers * lanesMax
+fileWords = vectorRegisters * lanesMax
 
 -- where the file has register r's lane l
 abbrev pub slotOf : VReg → Lane → ℕ

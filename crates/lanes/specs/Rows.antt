@@ -10,11 +10,12 @@ use Rattle.word.specs.declared.Cond.{Cond}
 use Rattle.lanes.specs.declared.Lane.{Lane}
 use Rattle.lanes.specs.declared.Operand.{Operand}
 use Rattle.lanes.specs.declared.Operand.the-variants.{Reg, Word}
-use Rattle.lanes.specs.Lanes.{lanesMax, registers, stepIf}
+use Rattle.isa.specs.Bounds.{vectorRegisters}
+use Rattle.lanes.specs.Lanes.{lanesMax, stepIf}
 
 -- an operand that is a register is one of the file's
 abbrev pub OperandOk : Operand → Type 0
-OperandOk (Reg r) = r .0 < registers
+OperandOk (Reg r) = r .0 < vectorRegisters
 OperandOk (Word x) = Unit {0}
 
 -- the word of lane l in the row a

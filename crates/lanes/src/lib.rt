@@ -7,7 +7,8 @@ ghost use mathlib.Core.Bool.{cond};
 ghost use Prim.Native.Nat.{_^_, _<_, _≤_};
 ghost use lib.ListN.{length};
 ghost use Rattle.lanes.specs.Mask.{bit};
-ghost use Rattle.lanes.specs.Lanes.{lanesMax, registers, fileWords, slotOf, laneOf, operandOf, writeLanes, maskOf, wantsOf, valueOf, uniformOf};
+ghost use Rattle.isa.specs.Bounds.{vectorRegisters};
+ghost use Rattle.lanes.specs.Lanes.{lanesMax, fileWords, slotOf, laneOf, operandOf, writeLanes, maskOf, wantsOf, valueOf, uniformOf};
 ghost use Rattle.lanes.specs.Rows.{OperandOk, at, RowOf, mapLane, holdsLane, maskStep};
 
 pub const LANES: usize = 32;
@@ -29,7 +30,7 @@ fn wide(x: u8) -> usize
 
 // The one place where register and lane become an index of the file.
 pub fn slot(r: VReg, l: Lane) -> usize
-    requires { ⌜ (r .0 < registers) × (l .0 < lanesMax) ⌝ }
+    requires { ⌜ (r .0 < vectorRegisters) × (l .0 < lanesMax) ⌝ }
     ensures { λ i. ⌜ i ≡ slotOf r l ⌝ }
 {
     let register = wide(r.0);
@@ -52,7 +53,7 @@ fn choose(t: bool, x: u32, y: u32) -> u32
 
 // Register r's lanes as a row: by value and over all lanes, it is compiled to plain copies.
 pub fn row(v: &[u32], r: VReg) -> [u32; LANES]
-    requires { ⌜ (length (now v) ≡ fileWords) × (r .0 < registers) ⌝ }
+    requires { ⌜ (length (now v) ≡ fileWords) × (r .0 < vectorRegisters) ⌝ }
     ensures { λ a. ⌜ RowOf lanesMax (laneOf (now (v .entry)) r) a ⌝ }
 {
     let mut a = [0u32; LANES];
@@ -78,7 +79,7 @@ pub fn operand_row(v: &[u32], b: Operand) -> [u32; LANES]
 
 // Register r's lanes below n, into a row that is lent.
 pub fn get(v: &[u32], r: VReg, n: usize, a: &mut [u32; LANES])
-    requires { ⌜ (length (now v) ≡ fileWords) × (r .0 < registers) × (n ≤ lanesMax) × (length (now a) ≡ lanesMax) ⌝ }
+    requires { ⌜ (length (now v) ≡ fileWords) × (r .0 < vectorRegisters) × (n ≤ lanesMax) × (length (now a) ≡ lanesMax) ⌝ }
     ensures { λ _. ⌜ RowOf n (laneOf (now (v .entry)) r) (now (a .exit)) ⌝ }
 {
     *a = row(v, r);
@@ -86,7 +87,7 @@ pub fn get(v: &[u32], r: VReg, n: usize, a: &mut [u32; LANES])
 
 // The one loop of every operation: both words are at hand and one is chosen without a branch, so it is compiled to vector code.
 pub fn map(op: Op, v: &mut [u32], mask: u32, d: VReg, n: usize, x: &[u32; LANES], y: &[u32; LANES])
-    requires { ⌜ (length (now v) ≡ fileWords) × (d .0 < registers) × (n ≤ lanesMax) ⌝ }
+    requires { ⌜ (length (now v) ≡ fileWords) × (d .0 < vectorRegisters) × (n ≤ lanesMax) ⌝ }
     ensures { λ _. ⌜ now (v .exit) ≡ writeLanes n (bit mask) d (mapLane op (now (x .entry)) (now (y .entry))) (now (v .entry)) ⌝ }
 {
     let mut l = 0;
@@ -109,7 +110,7 @@ pub fn map_on(
     x: &[u32; LANES],
     y: &[u32; LANES],
 )
-    requires { ⌜ (length (now v) ≡ fileWords) × (d .0 < registers) × (n ≤ lanesMax) ⌝ }
+    requires { ⌜ (length (now v) ≡ fileWords) × (d .0 < vectorRegisters) × (n ≤ lanesMax) ⌝ }
     ensures { λ _. ⌜ now (v .exit) ≡ writeLanes n (bit mask) d (mapLane op (now (x .entry)) (now (y .entry))) (now (v .entry)) ⌝ }
 {
     let mut l = 0;
@@ -124,7 +125,7 @@ pub fn map_on(
 
 // The row into register d, in each lane of the mask below n.
 pub fn put(v: &mut [u32], mask: u32, d: VReg, n: usize, a: &[u32; LANES])
-    requires { ⌜ (length (now v) ≡ fileWords) × (d .0 < registers) × (n ≤ lanesMax) ⌝ }
+    requires { ⌜ (length (now v) ≡ fileWords) × (d .0 < vectorRegisters) × (n ≤ lanesMax) ⌝ }
     ensures { λ _. ⌜ now (v .exit) ≡ writeLanes n (bit mask) d (at (now (a .entry))) (now (v .entry)) ⌝ }
 {
     let mut l = 0;
@@ -139,7 +140,7 @@ pub fn put(v: &mut [u32], mask: u32, d: VReg, n: usize, a: &[u32; LANES])
 
 // vmv.v and vmv.s.x: the operand into register d, in each lane of the mask.
 pub fn move_lanes(v: &mut [u32], mask: u32, n: usize, d: VReg, b: Operand)
-    requires { ⌜ (length (now v) ≡ fileWords) × (d .0 < registers) × OperandOk b × (n ≤ lanesMax) × (mask < 2 ^ n) ⌝ }
+    requires { ⌜ (length (now v) ≡ fileWords) × (d .0 < vectorRegisters) × OperandOk b × (n ≤ lanesMax) × (mask < 2 ^ n) ⌝ }
     ensures { λ _. ⌜ now (v .exit) ≡ writeLanes n (bit mask) d (operandOf (now (v .entry)) b) (now (v .entry)) ⌝ }
 {
     let y = operand_row(v, b);
@@ -161,7 +162,7 @@ fn count() -> [u32; LANES]
 
 // vid.v: the lane's number into register d, in each lane of the mask.
 pub fn id_lanes(v: &mut [u32], mask: u32, n: usize, d: VReg)
-    requires { ⌜ (length (now v) ≡ fileWords) × (d .0 < registers) × (n ≤ lanesMax) ⌝ }
+    requires { ⌜ (length (now v) ≡ fileWords) × (d .0 < vectorRegisters) × (n ≤ lanesMax) ⌝ }
     ensures { λ _. ⌜ now (v .exit) ≡ writeLanes n (bit mask) d (λ l. l .0) (now (v .entry)) ⌝ }
 {
     let x = count();
@@ -207,7 +208,7 @@ fn hold_op(c: Cond, n: usize, a: &[u32; LANES], b: &[u32; LANES]) -> u32
 
 // VBRANCH's else mask: the lanes of the mask in which the compare holds.
 pub fn else_mask(v: &[u32], mask: u32, n: usize, c: Cond, a: VReg, b: VReg) -> u32
-    requires { ⌜ (length (now v) ≡ fileWords) × (a .0 < registers) × (b .0 < registers) × (n ≤ lanesMax) × (mask < 2 ^ n) ⌝ }
+    requires { ⌜ (length (now v) ≡ fileWords) × (a .0 < vectorRegisters) × (b .0 < vectorRegisters) × (n ≤ lanesMax) × (mask < 2 ^ n) ⌝ }
     ensures { λ r. ⌜ r ≡ maskOf n (wantsOf (now (v .entry)) mask c a b) ⌝ }
 {
     let x = row(v, a);
@@ -238,7 +239,7 @@ pub struct Shared {
 
 // vmv.x.s: whether all lanes of the mask hold one word in register a, and that word.
 pub fn uniform(v: &[u32], mask: u32, n: usize, a: VReg) -> Shared
-    requires { ⌜ (length (now v) ≡ fileWords) × (a .0 < registers) × (n ≤ lanesMax) × (mask < 2 ^ n) ⌝ }
+    requires { ⌜ (length (now v) ≡ fileWords) × (a .0 < vectorRegisters) × (n ≤ lanesMax) × (mask < 2 ^ n) ⌝ }
     ensures { λ r. ⌜ (r .uniform ≡ uniformOf n (bit mask) (laneOf (now (v .entry)) a)) × (r .value ≡ valueOf n (bit mask) (laneOf (now (v .entry)) a)) ⌝ }
 {
     let x = row(v, a);

@@ -11,7 +11,9 @@ use lib.Count.{ones}
 use borrow.Author.Tests.{le-leb, leb-true}
 use Rattle.answer.proofs.Rows.{every-at}
 use Rattle.warp.specs.declared.Warp.{Warp}
-use Rattle.warp.specs.Warp.{scalarCount, splitCount, maxThreads}
+use Rattle.isa.specs.Bounds.{scalarRegisters}
+use Rattle.lanes.specs.Lanes.{lanesMax}
+use Rattle.warp.specs.Warp.{splitCount}
 use Rattle.warp.specs.WellFormed.{wellFormedOf}
 use Rattle.warp.proofs.Formed.{formed, held-of}
 use Rattle.warp.proofs.Moves.{room-left}
@@ -72,13 +74,13 @@ module _ (g h x s : List ℕ) (lg : length g ≡ fixedCount) (lh : length h ≡ 
 -- ---- the parts of a state
 
 -- four lists, one after another, are its parts
-module _ (x s h g : List ℕ) (lx : length x ≡ scalarCount) (ls : length s ≡ flatCount) (lh : length h ≡ movingCount) (lg : length g ≡ fixedCount) where
+module _ (x s h g : List ℕ) (lx : length x ≡ scalarRegisters) (ls : length s ≡ flatCount) (lh : length h ≡ movingCount) (lg : length g ≡ fixedCount) where
   pub parts-scalar : scalarPart (x ++ s ++ h ++ g) ≡ x
-  parts-scalar = rw (append-assoc (x ++ s) h g, append-assoc x s (h ++ g)) (take-at x (s ++ (h ++ g)) scalarCount lx)
+  parts-scalar = rw (append-assoc (x ++ s) h g, append-assoc x s (h ++ g)) (take-at x (s ++ (h ++ g)) scalarRegisters lx)
 
   pub parts-split : splitPart (x ++ s ++ h ++ g) ≡ s
   parts-split =
-      rw (append-assoc (x ++ s) h g, append-assoc x s (h ++ g), drop-at x (s ++ (h ++ g)) scalarCount lx) (take-at s (h ++ g) flatCount ls)
+      rw (append-assoc (x ++ s) h g, append-assoc x s (h ++ g), drop-at x (s ++ (h ++ g)) scalarRegisters lx) (take-at s (h ++ g) flatCount ls)
 
   pub parts-moving : movingPart (x ++ s ++ h ++ g) ≡ h
   parts-moving =
@@ -90,13 +92,13 @@ module _ (x s h g : List ℕ) (lx : length x ≡ scalarCount) (ls : length s ≡
 module _ (t : List ℕ) (l : length t ≡ stateWords) where
   pub parts-whole : scalarPart t ++ splitPart t ++ movingPart t ++ fixedPart t ≡ t
   parts-whole =
-      ap (λ (a : List ℕ). a ++ movingPart t ++ fixedPart t) (sym (take-add scalarCount flatCount t))
+      ap (λ (a : List ℕ). a ++ movingPart t ++ fixedPart t) (sym (take-add scalarRegisters flatCount t))
       ∙ ap (λ (a : List ℕ). a ++ fixedPart t) (sym (take-add movingStart movingCount t))
       ∙ sym (take-add fixedStart fixedCount t)
       ∙ take-all stateWords t (omega arith)
 
   pub split-long : length (splitPart t) ≡ flatCount
-  split-long = length-take-le flatCount (drop scalarCount t) (simp length-drop (omega arith))
+  split-long = length-take-le flatCount (drop scalarRegisters t) (simp length-drop (omega arith))
 
   pub moving-long : length (movingPart t) ≡ movingCount
   moving-long = length-take-le movingCount (drop movingStart t) (simp length-drop (omega arith))
@@ -109,7 +111,7 @@ module _ (t : List ℕ) (l : length t ≡ stateWords) where
   warp-words o = together-words (fixedPart t) (movingPart t) (scalarPart t) (splitPart t) fixed-long moving-long split-long o ∙ parts-whole
 
 -- a warp's words stand for it
-module _ (w : Warp) (lx : length (w .x) ≡ scalarCount) (lq : length (w .splits) ≡ splitCount) where
+module _ (w : Warp) (lx : length (w .x) ≡ scalarRegisters) (lq : length (w .splits) ≡ splitCount) where
   pub words-warp : warpIn (wordsOf w) ≡ w
   unfolding wordsOf
   words-warp =
@@ -142,6 +144,6 @@ module _ (g h x s : List ℕ) (l : Lent g h x s) where
   unfolding warpOf
   lent-deep = l .formed .deep
 
-  pub lent-room : depthIn h + ones (maskIn h) ≤ maxThreads
+  pub lent-room : depthIn h + ones (maskIn h) ≤ lanesMax
   unfolding warpOf
   lent-room = room-left (warpOf g h x s) (held-of (warpOf g h x s) (l .formed)) .0

@@ -9,7 +9,8 @@ use Rattle.word.specs.Word.{flagOf}
 use Rattle.warp.specs.declared.Split.{Split}
 use Rattle.warp.specs.declared.Fixed.{Fixed}
 use Rattle.warp.specs.declared.Warp.{Warp}
-use Rattle.warp.specs.Warp.{scalarCount, splitCount}
+use Rattle.isa.specs.Bounds.{scalarRegisters}
+use Rattle.warp.specs.Warp.{splitCount}
 
 -- ---- how many words
 
@@ -28,7 +29,7 @@ fixedCount = 13
 
 -- where the last two parts of a saved state begin, and where it ends
 abbrev pub movingStart : ℕ
-movingStart = scalarCount + flatCount
+movingStart = scalarRegisters + flatCount
 
 abbrev pub fixedStart : ℕ
 fixedStart = movingStart + movingCount
@@ -178,10 +179,10 @@ unfoldable pub wordsOf : Warp → List ℕ
 wordsOf w = w .x ++ splitsWords (w .splits) ++ movingWords w ++ fixedWords (w .fixed)
 
 abbrev pub scalarPart : List ℕ → List ℕ
-scalarPart t = take scalarCount t
+scalarPart t = take scalarRegisters t
 
 abbrev pub splitPart : List ℕ → List ℕ
-splitPart t = take flatCount (drop scalarCount t)
+splitPart t = take flatCount (drop scalarRegisters t)
 
 abbrev pub movingPart : List ℕ → List ℕ
 movingPart t = take movingCount (drop movingStart t)

@@ -15,7 +15,8 @@ use Rattle.isa.specs.declared.Instr.{Instr}
 use Rattle.isa.specs.declared.VReg.{VReg}
 use Rattle.lanes.specs.declared.Lane.{Lane}
 use Rattle.lanes.specs.Mask.{lane}
-use Rattle.lanes.specs.Lanes.{lanesMax, registers, fileWords, slotOf, writeLanes}
+use Rattle.isa.specs.Bounds.{vectorRegisters}
+use Rattle.lanes.specs.Lanes.{lanesMax, fileWords, slotOf, writeLanes}
 use Rattle.lanes.proofs.Laws.{each-keeps, write-only, write-unwritten}
 use Rattle.lanes.proofs.MaskLaws.{bit-above}
 use Rattle.warp.specs.declared.Warp.{Warp}
@@ -96,16 +97,16 @@ unwritten k m = (
 -- a write of the same words to a lane that is the same
 write-alike : (n : ℕ) (on : Lane → Bool) (c : VReg) (f g : Lane → ℕ) (v u : List ℕ) (l : Lane) → n ≤ lanesMax → length v ≡ fileWords → length u ≡ fileWords → l .0 < lanesMax → f l ≡ g l → SameLane l v u
     → SameLane l (writeLanes n on c f v) (writeLanes n on c g u)
-write-alike n on c f g v u l hn lv lu hl e s = in-file (ltb (c .0) registers) refl
+write-alike n on c f g v u l hn lv lu hl e s = in-file (ltb (c .0) vectorRegisters) refl
   where
     -- a register that the file does not have is not written
-    none : registers ≤ c .0 → (h : Lane → ℕ) (x : List ℕ) → length x ≡ fileWords → writeLanes n on c h x ≡ x
+    none : vectorRegisters ≤ c .0 → (h : Lane → ℕ) (x : List ℕ) → length x ≡ fileWords → writeLanes n on c h x ≡ x
     none b h x lx = each-keeps on _ x (λ y. y ≡ x) refl n (λ m y p q z. set-out y (slotOf c m) (h m) (rw z (omega arith)) ∙ z)
 
-    in-file : (t : Bool) → ltb (c .0) registers ≡ t → SameLane l (writeLanes n on c f v) (writeLanes n on c g u)
-    in-file true t = write-only n hn c (ltb-true (c .0) registers t) l hl v u lv lu s on on f g refl e
+    in-file : (t : Bool) → ltb (c .0) vectorRegisters ≡ t → SameLane l (writeLanes n on c f v) (writeLanes n on c g u)
+    in-file true t = write-only n hn c (ltb-true (c .0) vectorRegisters t) l hl v u lv lu s on on f g refl e
     in-file false t =
-        let b = ltb-false (c .0) registers t in
+        let b = ltb-false (c .0) vectorRegisters t in
         subst₂ (SameLane l) (sym (none b f v lv)) (sym (none b g u lu)) s
 
 module _ (k : List ℕ) (m : State) (u : List ℕ) (long : length (m .vector) ≡ length u) where

@@ -15,7 +15,8 @@ use Rattle.isa.specs.declared.Instr.the-variants as I
 use Rattle.isa.specs.declared.XReg.{XReg}
 use Rattle.isa.specs.declared.VReg.{VReg}
 use Rattle.lanes.specs.declared.Lane.{Lane}
-use Rattle.lanes.specs.Lanes.{lanesMax, registers, fileWords, laneOf, valueOf, uniformOf}
+use Rattle.isa.specs.Bounds.{vectorRegisters}
+use Rattle.lanes.specs.Lanes.{lanesMax, fileWords, laneOf, valueOf, uniformOf}
 use Rattle.lanes.proofs.Laws.{write-at, write-apart, uniform-at, uniform-when}
 use Rattle.warp.specs.declared.Warp.{Warp}
 use Rattle.warp.specs.Warp.{readX}
@@ -97,7 +98,7 @@ lane-words k m z l a = record { given = given; others = λ r o. rw (step-taken k
     long : length (m .vector) ≡ fileWords
     long = sizes (fixedOf m) k (m .vector) (m .bytes) (step-clear k m z .runs) .file-is
 
-    given : (r : VReg) (y : ℕ) → r .0 < registers → Gives m l (instrAt k m) r y → laneOf (stepOf k m .left .vector) r l ≡ y
+    given : (r : VReg) (y : ℕ) → r .0 < vectorRegisters → Gives m l (instrAt k m) r y → laneOf (stepOf k m .left .vector) r l ≡ y
     given r y b g =
         let f = filled m l (instrAt k m) r y g in
         rw (step-taken k m z, f .is) (write-at (active m) r (f .words) (m .vector) (fixedOf m .numt) l (active-below m l a .0) lanes (active-below m l a .1) (omega (arith, long, below)) ∙ f .at)

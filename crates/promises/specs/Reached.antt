@@ -6,7 +6,8 @@ use mathlib.Core.List.{List}
 use lib.ListN.{length}
 use Rattle.warp.specs.declared.Launch.{Launch}
 use Rattle.warp.specs.declared.Warp.{Warp}
-use Rattle.warp.specs.Warp.{scalarCount, splitCount, answered}
+use Rattle.isa.specs.Bounds.{scalarRegisters}
+use Rattle.warp.specs.Warp.{splitCount, answered}
 use Rattle.warp.specs.WellFormed.{wellFormedOf}
 use Rattle.definition.specs.State.{State, state, outcome, fixedOf}
 use Rattle.definition.specs.Refuse.{runsOkOf}
@@ -30,7 +31,7 @@ pub data Reached (k : List ℕ) (l : Launch) : State → Type 0 where
 pub record Sound (k : List ℕ) (l : Launch) (s : State) : Type 0 where
   pub formed : wellFormedOf (s .warp) ≡ true
   pub splits : length (s .warp .splits) ≡ splitCount
-  pub registers : length (s .warp .x) ≡ scalarCount
+  pub registers : length (s .warp .x) ≡ scalarRegisters
   pub runs : runsOkOf (fixedOf s) k (s .vector) (s .bytes) ≡ true
   pub fixed : fixedOf s ≡ l .fixed
 

@@ -17,7 +17,8 @@ use Rattle.isa.specs.declared.VecArgs.{VecArgs}
 use Rattle.isa.specs.declared.XReg.{XReg}
 use Rattle.isa.specs.declared.VReg.{VReg}
 use Rattle.lanes.specs.declared.Lane.{Lane}
-use Rattle.lanes.specs.Lanes.{registers, laneOf, operandOf, valueOf}
+use Rattle.isa.specs.Bounds.{vectorRegisters}
+use Rattle.lanes.specs.Lanes.{laneOf, operandOf, valueOf}
 use Rattle.memory.specs.Bytes.{leBytes}
 use Rattle.memory.specs.Memory.{widthOf, loadOf}
 use Rattle.warp.specs.Warp.{readX}
@@ -54,7 +55,7 @@ pub data Gives (m : State) (l : Lane) : Instr → VReg → ℕ → Type 0 where
 
 -- lane l's words in the vector file v, after the instruction: what it gives, and every other word as before
 pub record LaneLeft (m : State) (i : Instr) (l : Lane) (v : List ℕ) : Type 0 where
-  pub given : (r : VReg) (y : ℕ) → r .0 < registers → Gives m l i r y → laneOf v r l ≡ y
+  pub given : (r : VReg) (y : ℕ) → r .0 < vectorRegisters → Gives m l i r y → laneOf v r l ≡ y
   pub others : (r : VReg) → ((y : ℕ) → Gives m l i r y → ⊥) → laneOf v r l ≡ laneOf (m .vector) r l
 
 -- any two active lanes' words are equal

@@ -11,7 +11,8 @@ use Rattle.isa.specs.declared.CsrOp.{CsrOp}
 use Rattle.isa.specs.declared.XReg.{XReg}
 use Rattle.warp.specs.declared.Split.{Split}
 use Rattle.warp.specs.declared.Warp.{Warp}
-use Rattle.warp.specs.Warp.{splitCount, maxThreads, zeroSplit, setX, withPc, withRpc, withPrint, withStop, withSplits, writeX, next, linked}
+use Rattle.lanes.specs.Lanes.{lanesMax}
+use Rattle.warp.specs.Warp.{splitCount, zeroSplit, setX, withPc, withRpc, withPrint, withStop, withSplits, writeX, next, linked}
 use Rattle.warp.specs.Splits.{opened, openOf, parted, lastSplit, turned, turnOf, closeOf, joinOf, setRpcOf}
 use Rattle.warp.proofs.SplitLaws.{join-none, join-off, join-turn, join-close, parted-none, parted-all, parted-opens}
 use Rattle.warp.specs.Csr.{isPrint, csrAt, csrNew, csrDone, withCsr, writesOf}
@@ -183,7 +184,7 @@ join-goes-none g h x s z n h' d eh = next-goes g h x s z n h' x joinOf eh (join-
 -- ---- VBRANCH
 
 -- two lanes at least disagree, so that there is room for a split
-pub part-fits : (h : List ℕ) (e : ℕ) → depthIn h + ones (maskIn h) ≤ maxThreads → bitAnd e (maskIn h) ≡ e → (e ≡ 0 → ⊥) → (e ≡ maskIn h → ⊥)
+pub part-fits : (h : List ℕ) (e : ℕ) → depthIn h + ones (maskIn h) ≤ lanesMax → bitAnd e (maskIn h) ≡ e → (e ≡ 0 → ⊥) → (e ≡ maskIn h → ⊥)
     → (depthIn h < splitCount) × (e ≤ maskIn h)
 part-fits h e r i z m = (omega (arith, cut-two e (maskIn h) i z m), omega (arith, and-le-r e (maskIn h)))
 

@@ -30,7 +30,9 @@ ghost use Prim.Native.Nat.{ℕ, _+_, _-_, _*_, _^_, _≤_, _<_};
 ghost use lib.ListN.{length, getD};
 ghost use lib.Bits.{bitAnd};
 ghost use lib.Count.{ones};
-ghost use Rattle.warp.specs.Warp.{scalarCount, splitCount, maxThreads, setX, linked};
+ghost use Rattle.isa.specs.Bounds.{scalarRegisters};
+ghost use Rattle.lanes.specs.Lanes.{lanesMax};
+ghost use Rattle.warp.specs.Warp.{splitCount, setX, linked};
 ghost use Rattle.warp.specs.Facts.{FixedOk};
 ghost use Rattle.warp.specs.Splits.{openOf, parted, joinOf, setRpcOf};
 ghost use Rattle.warp.specs.Csr.{csrAt, csrNew, csrDone, writesOf};
@@ -40,7 +42,7 @@ ghost use Rattle.running.specs.Goes.{goIn, nextIn, resumeIn, csrIn, Goes
 // ---- scalar registers and the PC
 
 pub fn get_x(x: &[u32; SCALARS], r: XReg) -> u32
-    requires { ⌜ r .0 < scalarCount ⌝ }
+    requires { ⌜ r .0 < scalarRegisters ⌝ }
     ensures { λ y. ⌜ y ≡ getD (now (x .entry)) (r .0) 0 ⌝ }
 {
     let i = r.0 as usize;
@@ -48,7 +50,7 @@ pub fn get_x(x: &[u32; SCALARS], r: XReg) -> u32
 }
 
 pub fn put_x(x: &mut [u32; SCALARS], r: XReg, y: u32)
-    requires { ⌜ r .0 < scalarCount ⌝ }
+    requires { ⌜ r .0 < scalarRegisters ⌝ }
     ensures { λ _. ⌜ now (x .exit) ≡ setX r y (now (x .entry)) ⌝ }
 {
     let i = r.0 as usize;
@@ -70,7 +72,7 @@ pub fn next(h: &mut [u32; MOVING])
 }
 
 pub fn link(h: &mut [u32; MOVING], x: &mut [u32; SCALARS], rd: XReg, p: u32)
-    requires { ⌜ (length (now h) ≡ movingCount) × (rd .0 < scalarCount) ⌝ }
+    requires { ⌜ (length (now h) ≡ movingCount) × (rd .0 < scalarRegisters) ⌝ }
     ensures { λ _. ⌜ ((g s : List ℕ) → length s ≡ flatCount → Goes (linked rd p) g (now (h .entry)) (now (x .entry)) s (now (h .exit)) (now (x .exit)) s) ⌝ }
 {
     let q = word::add(h[PC], 4);
@@ -114,7 +116,7 @@ fn open(h: &mut [u32; MOVING], s: &mut [u32; FLAT], e: u32, p: u32)
 
 // VBRANCH, where the active lanes of e want p.
 pub fn part(h: &mut [u32; MOVING], s: &mut [u32; FLAT], e: u32, p: u32)
-    requires { ⌜ (length (now h) ≡ movingCount) × (length (now s) ≡ flatCount) × (depthIn (now h) + ones (maskIn (now h)) ≤ maxThreads) × (bitAnd e (maskIn (now h)) ≡ e) ⌝ }
+    requires { ⌜ (length (now h) ≡ movingCount) × (length (now s) ≡ flatCount) × (depthIn (now h) + ones (maskIn (now h)) ≤ lanesMax) × (bitAnd e (maskIn (now h)) ≡ e) ⌝ }
     ensures { λ _. ⌜ ((g x : List ℕ) → Goes (parted e p) g (now (h .entry)) x (now (s .entry)) (now (h .exit)) x (now (s .exit))) ⌝ }
 {
     if e == 0 {
@@ -159,7 +161,7 @@ pub fn join(h: &mut [u32; MOVING], s: &mut [u32; FLAT])
 // ---- CSRs and SETRPC
 
 pub fn setrpc(h: &mut [u32; MOVING], x: &mut [u32; SCALARS], rd: XReg, rs1: XReg, i: u16)
-    requires { ⌜ (length (now h) ≡ movingCount) × (rd .0 < scalarCount) × (rs1 .0 < scalarCount) × (i < 2 ^ 12) ⌝ }
+    requires { ⌜ (length (now h) ≡ movingCount) × (rd .0 < scalarRegisters) × (rs1 .0 < scalarRegisters) × (i < 2 ^ 12) ⌝ }
     ensures { λ _. ⌜ ((g s : List ℕ) → length s ≡ flatCount → Goes (setRpcOf rd rs1 i) g (now (h .entry)) (now (x .entry)) s (now (h .exit)) (now (x .exit)) s) ⌝ }
 {
     let y = word::add(get_x(x, rs1), word::extend(12, i as u32));
@@ -234,7 +236,7 @@ pub fn csr(
     rs1: u8,
     y: u32,
 )
-    requires { ⌜ (length (now h) ≡ movingCount) × (FixedOk (fixedIn (now g))) × (rd .0 < scalarCount) × (0x800 ≤ n) × (n ≤ 0x80c) ⌝ }
+    requires { ⌜ (length (now h) ≡ movingCount) × (FixedOk (fixedIn (now g))) × (rd .0 < scalarRegisters) × (0x800 ≤ n) × (n ≤ 0x80c) ⌝ }
     ensures { λ _. ⌜ ((s : List ℕ) → length s ≡ flatCount → Goes (csrDone op n rd rs1 y) (now (g .entry)) (now (h .entry)) (now (x .entry)) s (now (h .exit)) (now (x .exit)) s) ⌝ }
 {
     let old = csr_at(h, g, n);

@@ -16,7 +16,8 @@ use Rattle.isa.specs.declared.XReg.{XReg}
 use Rattle.warp.specs.declared.Split.{Split}
 use Rattle.warp.specs.declared.Fixed.{Fixed}
 use Rattle.warp.specs.declared.Warp.{Warp}
-use Rattle.warp.specs.Warp.{splitCount, maxThreads, maxWarps, zeroSplit, aligned, withPc, withRpc, withPrint, withStop, setX, writeX, nextPc, next}
+use Rattle.lanes.specs.Lanes.{lanesMax}
+use Rattle.warp.specs.Warp.{splitCount, maxWarps, zeroSplit, aligned, withPc, withRpc, withPrint, withStop, setX, writeX, nextPc, next}
 use Rattle.warp.specs.WellFormed.{fixedOkOf, chainOf, isZero, allZero, wellFormedOf}
 use Rattle.warp.specs.Splits.{openOf, lastSplit, turned, turnOf, closeOf, joinOf, setRpcOf}
 use Rattle.warp.proofs.SplitLaws.{by-cond}
@@ -35,11 +36,11 @@ unfolding fixedOkOf
 fixed-ok f e =
     let p =
     every-at
-    (between 1 (f .numt) maxThreads ∷ between 1 (f .numw) maxWarps ∷ ltb (f .wid) (f .numw) ∷ not (eqb (f .launchMask) 0) ∷ ltb (f .launchMask) (2 ^ f .numt) ∷ aligned (f .codeBase) ∷ [])
+    (between 1 (f .numt) lanesMax ∷ between 1 (f .numw) maxWarps ∷ ltb (f .wid) (f .numw) ∷ not (eqb (f .launchMask) 0) ∷ ltb (f .launchMask) (2 ^ f .numt) ∷ aligned (f .codeBase) ∷ [])
     e in
     let z : f .launchMask ≡ 0 → ⊥ = eqb-false _ _ (not-true _ (p 3)) in
     record {
-      lanes = ends 1 (f .numt) maxThreads (p 0);
+      lanes = ends 1 (f .numt) lanesMax (p 0);
       warps = ends 1 (f .numw) maxWarps (p 1);
       wid = ltb-true _ _ (p 2);
       some = omega arith;
@@ -48,7 +49,7 @@ fixed-ok f e =
     }
 
 -- TID fits a word
-pub tid-small : (f : Fixed) → FixedOk f → tidOf f ≤ maxWarps * maxThreads
+pub tid-small : (f : Fixed) → FixedOk f → tidOf f ≤ maxWarps * lanesMax
 tid-small f k = mul-le-mul (le-of-lt (lt-of-lt-of-le (k .wid) (k .warps .1))) (k .lanes .1)
 
 -- ---- the test, part by part

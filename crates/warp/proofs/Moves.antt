@@ -19,7 +19,8 @@ use Rattle.answer.proofs.Rows.{both}
 use Rattle.lanes.specs.declared.Lane.{Lane}
 use Rattle.lanes.specs.Mask.{bitAt}
 use Rattle.lanes.proofs.MaskLaws.{cut-bit, cut-ones, ones-pos}
-use Rattle.warp.specs.Warp.{splitCount, maxThreads, zeroSplit}
+use Rattle.lanes.specs.Lanes.{lanesMax}
+use Rattle.warp.specs.Warp.{splitCount, zeroSplit}
 use Rattle.warp.specs.WellFormed.{splitOkOf, chainOf}
 use Rattle.warp.specs.Splits.{opened, openOf, lastSplit, turned, turnOf, closeOf, joinOf}
 use Rattle.warp.proofs.SplitLaws.{by-cond}
@@ -69,7 +70,7 @@ pub cut-two : (e m : ℕ) → bitAnd e m ≡ e → (e ≡ 0 → ⊥) → (e ≡ 
 cut-two e m i z n = omega (arith, cut-ones m e i, ones-pos e (omega arith), ones-pos (m - e) (omega (arith, and-le-r e m)), and-le-r e m)
 
 -- each open split parks a lane, so that with the active ones they are at most as many as a warp has
-pub room-left : (w : Warp) → Held w → (w .depth + ones (w .mask) ≤ maxThreads) × (0 < w .mask)
+pub room-left : (w : Warp) → Held w → (w .depth + ones (w .mask) ≤ lanesMax) × (0 < w .mask)
 room-left w h = omega (arith, chain-fewer (w .fixed .launchMask) (w .splits) (w .depth) (w .mask) (h .some) (h .chain), ones-le 32 (w .fixed .launchMask) (h .small))
 
 -- The split records never overflow.

@@ -6,11 +6,12 @@ use lib.Dec.{ltb}
 use lib.ListN.{getD, drop, length}
 use Rattle.warp.specs.declared.Fixed.{Fixed}
 use Rattle.warp.specs.declared.Warp.{Warp}
-use Rattle.warp.specs.Warp.{splitCount, maxThreads, maxWarps}
+use Rattle.lanes.specs.Lanes.{lanesMax}
+use Rattle.warp.specs.Warp.{splitCount, maxWarps}
 use Rattle.warp.specs.WellFormed.{fixedOkOf, chainOf, allZero}
 
 pub record FixedOk (f : Fixed) : Type 0 where
-  pub lanes : (1 ≤ f .numt) × (f .numt ≤ maxThreads)
+  pub lanes : (1 ≤ f .numt) × (f .numt ≤ lanesMax)
   pub warps : (1 ≤ f .numw) × (f .numw ≤ maxWarps)
   pub wid : f .wid < f .numw
   pub some : 0 < f .launchMask

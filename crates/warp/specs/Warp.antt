@@ -6,7 +6,6 @@ use lib.Dec.{eqb}
 use lib.ListN.{getD, set, replicate}
 use Rattle.isa.specs.declared.XReg.{XReg}
 use Rattle.isa.specs.Bounds.{scalarRegisters}
-use Rattle.lanes.specs.Lanes.{lanesMax}
 use Rattle.warp.specs.declared.Split.{Split}
 use Rattle.warp.specs.declared.Fixed.{Fixed}
 use Rattle.warp.specs.declared.Launch.{Launch}
@@ -15,18 +14,11 @@ use Rattle.word.specs.Word.{addOf}
 
 -- ---- sizes
 
--- the scalar registers
-abbrev pub scalarCount : ℕ
-scalarCount = scalarRegisters
-
 -- room for open splits
 abbrev pub splitCount : ℕ
 splitCount = 31
 
--- threads in a warp, and warps in the group
-abbrev pub maxThreads : ℕ
-maxThreads = lanesMax
-
+-- warps in the group
 abbrev pub maxWarps : ℕ
 maxWarps = 32
 
@@ -61,7 +53,7 @@ zeroLaunch = record { fixed = zeroFixed; entry = 0 }
 unfoldable pub zeroWarp : Warp
 zeroWarp =
     record {
-      x = replicate scalarCount 0;
+      x = replicate scalarRegisters 0;
       splits = replicate splitCount zeroSplit;
       depth = 0;
       pc = 0;

@@ -10,13 +10,14 @@ use Rattle.warp.specs.declared.Launch.{Launch}
 use Rattle.warp.specs.declared.Warp.{Warp}
 use Rattle.answer.specs.Rows.{every, between}
 use Rattle.lanes.specs.Mask.{inside}
-use Rattle.warp.specs.Warp.{splitCount, maxThreads, maxWarps, zeroSplit, aligned}
+use Rattle.lanes.specs.Lanes.{lanesMax}
+use Rattle.warp.specs.Warp.{splitCount, maxWarps, zeroSplit, aligned}
 
 -- NUMT, NUMW, WID, launch mask and code base in range
 unfoldable pub fixedOkOf : Fixed → Bool
 fixedOkOf f =
     every
-    (between 1 (f .numt) maxThreads
+    (between 1 (f .numt) lanesMax
     ∷ between 1 (f .numw) maxWarps
     ∷ ltb (f .wid) (f .numw)
     ∷ not (eqb (f .launchMask) 0)

@@ -1,6 +1,7 @@
 ghost use mathlib.Core.Path.{_≡_};
 ghost use Prim.Native.Nat.{_^_, _≤_};
-ghost use Rattle.warp.specs.Warp.{maxThreads, zeroSplit, zeroFixed, zeroLaunch, zeroWarp};
+ghost use Rattle.lanes.specs.Lanes.{lanesMax};
+ghost use Rattle.warp.specs.Warp.{zeroSplit, zeroFixed, zeroLaunch, zeroWarp};
 ghost use Rattle.warp.specs.WellFormed.{fixedOkOf, launchOkOf};
 
 // Threads in a warp, warps in the group, and room for open splits.
@@ -115,7 +116,7 @@ pub fn zero_warp() -> Warp
 
 // 2 to the power n: one more than the greatest mask of n lanes.
 fn mask_room(n: u32) -> u64
-    requires { ⌜ n ≤ maxThreads ⌝ }
+    requires { ⌜ n ≤ lanesMax ⌝ }
     ensures { λ r. ⌜ r ≡ 2 ^ n ⌝ }
 {
     1u64 << n

@@ -11,7 +11,8 @@ use Rattle.isa.specs.Kinds.{opLimit, laneOpWord, sourceIn}
 use Rattle.isa.specs.Number.{opAt}
 use Rattle.lanes.specs.declared.Lane.{Lane}
 use Rattle.lanes.specs.declared.Operand.{Operand}
-use Rattle.lanes.specs.Lanes.{fileWords, lanesMax, registers, opLane, writeLanes}
+use Rattle.isa.specs.Bounds.{vectorRegisters}
+use Rattle.lanes.specs.Lanes.{fileWords, lanesMax, opLane, writeLanes}
 use Rattle.lanes.specs.Mask.{bit}
 use Rattle.lanes.specs.Rows.{OperandOk}
 use Rattle.lanes.proofs.Laws.{write-length}
@@ -34,7 +35,7 @@ start t = op t .before .before .before
 -- what either call asks, with an operand that is the one read
 asked : (t : tie.After-vs2) (b : Operand) → op t .before .operand .result ≡ b →
     let a = start t .args in
-    (length (a .v .now) ≡ fileWords) × (t .before .vd .result .0 < registers) × (t .vs2 .result .0 < registers) × OperandOk b × (t .before .before .threads .result ≤ lanesMax)
+    (length (a .v .now) ≡ fileWords) × (t .before .vd .result .0 < vectorRegisters) × (t .vs2 .result .0 < vectorRegisters) × OperandOk b × (t .before .before .threads .result ≤ lanesMax)
     × (maskIn (a .h .now) < 2 ^ t .before .before .threads .result)
 asked t b e =
     let lent = start t .pre .at in

@@ -2,7 +2,7 @@ use Prim.Native.Nat.{ℕ}
 use mathlib.Core.List.{List}
 use mathlib.Core.Path.{_∙_}
 use lib.ListN.{drop}
-use Rattle.warp.specs.Warp.{scalarCount}
+use Rattle.isa.specs.Bounds.{scalarRegisters}
 use Rattle.layout.specs.Words.{flatCount, movingCount, fixedCount, movingStart, fixedStart}
 use Rattle.layout.proofs.Copies.{copied}
 use borrow.Author.Needs.{needs}
@@ -18,8 +18,8 @@ returns c =
     let t : List ℕ = a .state .now in (
       moving .copy3 .ensures ∙ copied (a .h .now) (drop movingStart t) movingCount (search needs),
       c .copy4 .ensures ∙ copied (a .g .now) (drop fixedStart t) fixedCount (search needs),
-      scalars .copy .ensures ∙ copied (a .x .now) t scalarCount (search needs),
-      splits .copy2 .ensures ∙ copied (a .s .now) (drop scalarCount t) flatCount (search needs),
+      scalars .copy .ensures ∙ copied (a .x .now) t scalarRegisters (search needs),
+      splits .copy2 .ensures ∙ copied (a .s .now) (drop scalarRegisters t) flatCount (search needs),
     )
 
 pub get-spec : {M : Type 1} → statement M
