@@ -14,8 +14,9 @@ use Rattle.answer.proofs.Rows.{passed}
 use Rattle.warp.specs.declared.Launch.{Launch}
 use Rattle.warp.specs.Warp.{zeroLaunch}
 use Rattle.warp.specs.WellFormed.{launchOkOf}
+use Rattle.big_endian.specs.Puts.{putsAll, later}
 use Rattle.card.specs.declared.ReadCard.{ReadCard}
-use Rattle.card.specs.Card.{cardSize, headOkAt, launchAt, cardOf, Reading, reading, readingOf, readTests, readCardOf, Writing, writing, writeTests, writeCardOf}
+use Rattle.card.specs.Card.{valuesOf, cardSize, headOkAt, launchAt, cardOf, Reading, reading, readingOf, readTests, readCardOf, Writing, writing, writeTests, writeCardOf}
 
 -- ---- reading
 
@@ -80,6 +81,10 @@ module _ (l : Launch) (t : List ℕ) where
     pub write-done : launchOkOf l ≡ true → writing 0 (cardOf l) ≡ writeCardOf l t
     unfolding writeCardOf
     write-done o = simp (eq-eqb _ _ s, o)
+
+-- the target t once the values after the first n are put into it too, from index i on
+abbrev pub putsRest : Launch → ℕ → ℕ → List ℕ → List ℕ
+putsRest l n i t = putsAll (later n (valuesOf l)) i t
 
 -- ---- determinacy
 

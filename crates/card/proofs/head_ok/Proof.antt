@@ -5,7 +5,7 @@ use Rattle.card.proofs.head_ok.Tie as tie
 
 returns : tie.Need-returns
 unfolding headOkAt
-returns c = cc
+returns c = rw (c .before .half-at .ensures .0, c .byte-at .ensures .0)
 
 pub head-ok-spec : {M : Type 1} → statement M
 head-ok-spec =
