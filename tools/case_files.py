@@ -3,12 +3,13 @@ reading of its words, cards, case records (reference/CASES-FORMAT.md), runs by Q
 reference before a file is written.
 
 An instruction is written as binutils prints it (objdump -M no-aliases,numeric), a jump with its distance in
-bytes. Ventus's own words have the names of docs/DEFINITION.md and the same way of writing.
+bytes. Ventus's own words have the names of docs/DEFINITION.md and the same way of writing; private accesses, for
+which it has no name, end in .p as in the reference.
 """
 import os, re, shutil, struct, subprocess, sys, tempfile
 
 ROOT = os.path.dirname(os.path.dirname(os.path.abspath(__file__)))
-DATA_FOLDER = os.path.join(ROOT, 'crates', 'cases', 'data')
+DATA_FOLDER = os.path.join(ROOT, 'crates', 'test_cases', 'data')
 QEMU = 'qemu-riscv32'
 OBJDUMP = 'riscv64-unknown-elf-objdump'
 AS = 'riscv64-unknown-elf-as'
@@ -85,6 +86,8 @@ FIELDS = {
     'xd': register('x', 7), 'x1': register('x', 15), 'x2': register('x', 20),
     'vd': register('v', 7), 'v1': register('v', 15), 'v2': register('v', 20),
     'i': i_field, 's': s_field, 'b': b_field, 'j': j_field,
+    # of a private access, which leaves bit 31 zero
+    'pi': lambda imm: i_field(within(imm, -1024, 1024) & 0x7FF), 'ps': lambda imm: s_field(within(imm, -1024, 1024) & 0x7FF),
     'u': lambda imm: within(imm, 0, 1 << 20) << 12,
     'amount': lambda imm: within(imm, 0, 32) << 20,
     'signed': lambda imm: (within(imm, -16, 16) & 0x1F) << 15,
@@ -127,6 +130,8 @@ def ventus_table():
     rows |= {'vb' + n: (f3 << 12 | 0x5B, 'v1 v2 b') for n, f3 in BRANCHES.items()}
     rows |= {'vl%s12' % n: (f3 << 12 | 0x7B, 'vd i v1') for n, f3 in LOADS.items()}
     rows |= {'vs%s12' % n: (f3 << 12 | 0x7B, 'v2 s v1') for n, (_, f3) in STORES.items()}
+    rows |= {'vl%s.p' % n: (f3 << 12 | 0x2B, 'vd pi v1') for n, f3 in LOADS.items()}
+    rows |= {'vs%s.p' % n: (f3 << 12 | 0x2B, 'v2 ps v1') for n, (_, f3) in STORES.items()}
     return rows
 
 
@@ -217,10 +222,10 @@ def load_immediate(register, value):
 # ---- cards and case files
 
 
-def card(numt=4, mask=None, entry=None, length=48, version=1, code=CODE, data=DATA):
+def card(numt=4, mask=None, entry=None, length=48, version=1, code=CODE, data=DATA, numw=1, wid=0, pds=0):
     mask = (1 << numt) - 1 if mask is None else mask
-    words = [mask, code, data, code if entry is None else entry, 0, 0, 0, 0, 0, 0, 0]
-    return struct.pack('>HBBBB11I', length, version, numt, 1, 0, *words)
+    words = [mask, code, data, code if entry is None else entry, 0, 0, 0, pds, 0, 0, 0]
+    return struct.pack('>HBBBB11I', length, version, numt, numw, wid, *words)
 
 
 def packed(words, order):

@@ -51,6 +51,25 @@ STORE = kernel(
     'vadd.vi v3,v1,10', 'vsw12 v3,0(v2)',   # word l of data memory becomes 10 + l
     'endprg')
 
+# each lane stores two private words; the data, read word by word, must count from 10 to 17
+PRIVATE = kernel(
+    'vid.v v1', 'vmv.v.i v2,0',
+    'vadd.vi v3,v1,10', 'vsw.p v3,0(v2)',   # u = 0: 10 + l
+    'vadd.vi v3,v1,14', 'vsw.p v3,4(v2)',   # u = 4: 14 + l
+    'lui x5,0x%x' % (DATA >> 12),           # the first word's address
+    'addi x6,x0,10', 'addi x7,x0,18',
+    'lw x8,0(x5)',                          # a plain read of one word
+    'bne x8,x6,20',                         # another number: to the word after ENDPRG
+    'addi x5,x5,4', 'addi x6,x6,1',
+    'bne x6,x7,-16',                        # the next word
+    'endprg') + bytes(4)                    # a word that is not in the tables
+
+# lane 3's u is 1, so that its word crosses a boundary; the others' is 0
+CROSSING = kernel(
+    'vid.v v1', 'vmseq.vi v2,v1,3',
+    'vadd.vi v3,v1,10', 'vsw.p v3,0(v2)',
+    'endprg')
+
 EXAMPLES = {
     # name: card, kernel, data; None: no such file
     'end': (card(), END, None),
@@ -59,6 +78,8 @@ EXAMPLES = {
     'open31': (card(32), OPEN31, None),
     'store': (card(), STORE, bytes(16)),
     'outside': (card(), STORE, bytes(15)),
+    'private': (card(numw=2, wid=1, pds=DATA), PRIVATE, bytes(32)),
+    'crossing': (card(numw=2, wid=1, pds=DATA), CROSSING, bytes(32)),
 }
 
 # the examples again, then wrong, missing, empty and oversized files, and the largest that are taken

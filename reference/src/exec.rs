@@ -430,7 +430,7 @@ fn uniform(mask: u32, a: &[u32; LANES]) -> Result<u32, Refusal> {
 // Data memory.
 
 #[inline]
-fn load_size(kind: LoadKind) -> usize {
+pub fn load_size(kind: LoadKind) -> usize {
     match kind {
         LoadKind::B | LoadKind::Bu => 1,
         LoadKind::H | LoadKind::Hu => 2,
@@ -439,7 +439,7 @@ fn load_size(kind: LoadKind) -> usize {
 }
 
 #[inline]
-fn store_size(kind: StoreKind) -> usize {
+pub fn store_size(kind: StoreKind) -> usize {
     match kind {
         StoreKind::B => 1,
         StoreKind::H => 2,
@@ -449,7 +449,7 @@ fn store_size(kind: StoreKind) -> usize {
 
 /// Where in the data run an access begins, if it lies wholly inside.
 #[inline]
-fn place(data: &[u8], base: u32, address: u32, size: usize) -> Result<usize, Refusal> {
+pub fn place(data: &[u8], base: u32, address: u32, size: usize) -> Result<usize, Refusal> {
     let at = address.checked_sub(base).ok_or(Refusal::Access)? as usize;
     match data.len().checked_sub(size) {
         Some(last) if at <= last => Ok(at),
@@ -486,20 +486,28 @@ fn store(data: &mut [u8], kind: StoreKind, at: usize, value: u32) {
     }
 }
 
-/// The address of one lane's access.
+/// The address of a lane's access at `u`, its base plus offset. Private: the lanes' first words
+/// stand side by side, then their second words, and so on.
 #[inline]
-fn address(f: &Fixed, space: Space, lane: usize, base: u32, off: u32) -> u32 {
-    let sum = base.wrapping_add(off);
+pub fn address(f: &Fixed, space: Space, lane: usize, u: u32) -> u32 {
     match space {
-        Space::Flat => sum,
-        Space::Private => sum
-            .wrapping_mul(f.numw.wrapping_mul(f.numt))
-            .wrapping_add(f.tid().wrapping_add(lane as u32))
+        Space::Flat => u,
+        Space::Private => (u & !3)
+            .wrapping_mul(f.numt)
+            .wrapping_add(u % 4)
+            .wrapping_add(4 * lane as u32)
             .wrapping_add(f.pds),
     }
 }
 
-/// Every active lane's place, tested before any lane acts.
+/// Whether a private access at `u` goes past the end of its word.
+#[inline]
+pub fn crosses(u: u32, size: usize) -> bool {
+    (u % 4) as usize + size > 4
+}
+
+/// Every active lane's place, tested before any lane acts: that none crosses, then that all are
+/// inside.
 #[inline]
 fn places(
     w: &Warp,
@@ -509,9 +517,13 @@ fn places(
     off: u32,
     size: usize,
 ) -> Result<[usize; LANES], Refusal> {
+    let u = |lane: usize| bases[lane].wrapping_add(off);
+    if space == Space::Private && active(w.mask).any(|lane| crosses(u(lane), size)) {
+        return Err(Refusal::Crossing);
+    }
     let mut at = [0; LANES];
     for lane in active(w.mask) {
-        let address = address(&w.fixed, space, lane, bases[lane], off);
+        let address = address(&w.fixed, space, lane, u(lane));
         at[lane] = place(data, w.fixed.data_base, address, size)?;
     }
     Ok(at)

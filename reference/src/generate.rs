@@ -3,7 +3,8 @@
 //! other round others of the same kinds.
 
 use crate::case::{evaluate, launch_words, Case, Data, Kernel, Shown, Vector};
-use crate::isa::{ENDPRG, JOIN};
+use crate::exec::address;
+use crate::isa::{Space, ENDPRG, JOIN};
 use crate::state::{Fixed, Launch, Split, Warp};
 use crate::table::{
     enc_b, enc_i, enc_j, enc_s, rd, rs1, rs2, Shape, Table, Variant, BARRIER, NOP, RD, RS1, RS2,
@@ -53,17 +54,84 @@ const CORNERS: [u32; 10] =
 // Words.
 
 fn touches_memory(v: &Variant) -> bool {
-    use Shape::{Load, PrivateLoad, PrivateStore, Store, Vload, Vstore};
-    matches!(v.shape, Load | Store | Vload | Vstore | PrivateLoad | PrivateStore)
+    matches!(v.shape, Shape::Load | Shape::Store | Shape::Vload | Shape::Vstore) || is_private(v)
+}
+fn is_private(v: &Variant) -> bool {
+    matches!(v.shape, Shape::PrivateLoad | Shape::PrivateStore)
+}
+
+/// How many bytes an access takes, by its name.
+fn size_of(v: &Variant) -> u32 {
+    let width = v.name.trim_start_matches('v')[1..].trim_end_matches("12").trim_end_matches(".p");
+    match width {
+        "b" | "bu" => 1,
+        "h" | "hu" => 2,
+        _ => 4,
+    }
+}
+
+/// An access at a register plus offset: into register `value`, or from it.
+fn access(v: &Variant, address: u32, value: u32, off: i32) -> u32 {
+    let off = if is_private(v) { off & 0x7ff } else { off };
+    let fields = match v.shape {
+        Shape::Load | Shape::Vload | Shape::PrivateLoad => rd(value) | enc_i(off),
+        _ => rs2(value) | enc_s(off),
+    };
+    v.fixed | rs1(address) | fields
 }
 
 /// A register that holds an address by our custom (number 2 modulo 4).
 fn address_register(rng: &mut Rng) -> u32 {
     2 + 4 * rng.below(7)
 }
-/// A register that holds a small number (1 modulo 4).
-fn small_register(rng: &mut Rng) -> u32 {
-    1 + 4 * rng.below(7)
+
+/// How u mod 4 lies over the lanes of a private access: at `at` plus, lane by lane, some bits of
+/// `vary`.
+#[derive(Clone, Copy)]
+struct Low {
+    at: u32,
+    vary: u32,
+}
+
+impl Low {
+    fn any(rng: &mut Rng) -> Low {
+        Low { at: rng.below(4), vary: rng.below(4) }
+    }
+    /// No lane crosses a word boundary.
+    fn fitting(rng: &mut Rng, size: u32) -> Low {
+        let (at, vary) = match size {
+            1 => return Low::any(rng),
+            2 => rng.pick(&[(0, 0), (0, 1), (0, 2), (1, 0), (1, 1), (2, 0), (2, 2)]),
+            _ => (0, 0),
+        };
+        Low { at, vary }
+    }
+    /// Every lane crosses; a byte can't.
+    fn crossing(rng: &mut Rng, size: u32) -> Low {
+        let (at, vary) = match size {
+            1 => return Low::any(rng),
+            2 => (3, 0),
+            _ => rng.pick(&[(1, 0), (2, 0), (3, 0), (1, 1), (1, 2), (2, 1)]),
+        };
+        Low { at, vary }
+    }
+    /// Fitting, but in one of twelve.
+    fn mostly_fitting(rng: &mut Rng, size: u32) -> Low {
+        if rng.chance(12) {
+            Low::any(rng)
+        } else {
+            Low::fitting(rng, size)
+        }
+    }
+}
+
+/// A private access, after a word that makes u small whatever its register held.
+fn small_private(rng: &mut Rng, t: &Table, v: &Variant) -> [u32; 2] {
+    let low = Low::mostly_fitting(rng, size_of(v));
+    let base = rng.below(32);
+    let small = t.fixed("vand.vi") | rd(base) | rs2(rng.below(32)) | rs1(12 | low.vary);
+    let off = 4 * rng.range(-1, 2) + low.at as i32;
+    [small, access(v, base, rng.below(32), off)]
 }
 
 /// The byte offset from word `at` to a word of the kernel, the one past the
@@ -88,8 +156,18 @@ struct Place {
     at: u32,
     words: u32,
     forward: bool,
-    /// Let some words be refused (7 to 9).
+    /// Let some words be refused (7 to 9, 14).
     wild: bool,
+}
+
+/// A word of a variant. A private access has one before it that makes its u small; if `wild`,
+/// seldom none, with any u.
+fn push_drawn(rng: &mut Rng, t: &Table, v: &Variant, p: Place, kernel: &mut Vec<u32>) {
+    if is_private(v) && !(p.wild && rng.chance(20)) {
+        kernel.extend(small_private(rng, t, v));
+    } else {
+        kernel.push(draw(rng, v, p));
+    }
 }
 
 /// One word of a variant. x31 is taken to hold the code base.
@@ -107,20 +185,15 @@ fn draw(rng: &mut Rng, v: &Variant, p: Place) -> u32 {
         Shape::Branch => {
             v.fixed | any & (RS1 | RS2) | enc_b(target(rng, p.at, p.words, p.forward, p.wild))
         }
-        Shape::Load | Shape::Vload if !wild => {
-            v.fixed | any & RD | rs1(address_register(rng)) | enc_i(rng.range(-8, 12))
+        Shape::Load | Shape::Vload | Shape::Store | Shape::Vstore if !wild => {
+            access(v, address_register(rng), rng.below(32), rng.range(-8, 12))
         }
-        Shape::Store | Shape::Vstore if !wild => {
-            v.fixed | any & RS2 | rs1(address_register(rng)) | enc_s(rng.range(-8, 12))
-        }
-        Shape::PrivateLoad if !wild => {
-            v.fixed | any & RD | rs1(small_register(rng)) | enc_i(rng.range(-4, 4) & 0x7ff)
-        }
-        Shape::PrivateStore if !wild => {
-            v.fixed | any & RS2 | rs1(small_register(rng)) | enc_s(rng.range(-4, 4) & 0x7ff)
-        }
-        Shape::Load | Shape::Vload | Shape::Store | Shape::Vstore => any,
-        Shape::PrivateLoad | Shape::PrivateStore => any,
+        Shape::Load
+        | Shape::Vload
+        | Shape::Store
+        | Shape::Vstore
+        | Shape::PrivateLoad
+        | Shape::PrivateStore => any,
         Shape::Csr => {
             let fields = any & (RD | RS1);
             let number = if wild {
@@ -168,11 +241,9 @@ fn ground(rng: &mut Rng, kernel_words: u32) -> Ground {
     let numw = rng.pick(&[1, 1, 1, 2, 2, 3, 5, 32]);
     let wid = rng.below(numw);
     let mask = if rng.chance(3) { some_lanes(rng, low_mask(numt)) } else { low_mask(numt) };
-    let stride = numt * numw;
-    // Private: (small + offset) * stride + tid + lane + pds, small below 16,
-    // offset within 4.
-    let private = stride * 25 + 8;
-    let total = if rng.chance(6) { 40 + rng.below(60) } else { private.clamp(100, 4000) };
+    // `small_private`: u from -4 to 26, which are eight rows of a word a lane.
+    let row = 4 * numt;
+    let total = if rng.chance(6) { 40 + rng.below(60) } else { (8 * row + 3).max(100) };
     let top = (1u64 << 32) - u64::from(total);
     let data_base =
         rng.pick(&[0, 0x100, 0x1001, 0x9000_0000, 0x7fff_ffc0, 0xa000_0003, top as u32]);
@@ -189,7 +260,7 @@ fn ground(rng: &mut Rng, kernel_words: u32) -> Ground {
         knl: rng.word(),
         wgid: rng.below(16),
         lds: rng.word(),
-        pds: data_base.wrapping_add(4 * stride),
+        pds: data_base.wrapping_add(rng.pick(&[0, row, row, row, row, row]) + rng.below(4)),
         gidx: rng.below(100),
         gidy: rng.below(100),
         gidz: rng.word(),
@@ -320,6 +391,7 @@ pub fn all_cases(round: u32) -> Vec<Case> {
     csrs(&table, &mut out);
     near_words(round, &table, &mut out);
     data_ends(round, &table, &mut out);
+    privates(round, &table, &mut out);
     overlaps(round, &table, &mut out);
     pc_edges(round, &table, &mut out);
     sizes(round, &mut out);
@@ -373,10 +445,11 @@ fn directed(round: u32, t: &Table, out: &mut Vec<Case>) {
                     kernel.push(v.fixed | rd(rng.below(32)) | rs2(other));
                 } else {
                     let at = kernel.len() as u32;
-                    kernel.push(draw(rng, v, Place { at, words, forward: true, wild }));
+                    let place = Place { at, words, forward: true, wild };
+                    push_drawn(rng, t, v, place, &mut kernel);
                 }
             }
-            let g = ground(rng, words);
+            let g = ground(rng, kernel.len() as u32);
             let depth = rng.pick(&[0, 0, 1, 2, 3]);
             let warp = random_state(rng, &g, words, depth);
             let budget = rng.pick(&[8, 8, 8, 8, 20, 3]);
@@ -519,23 +592,23 @@ fn soup(round: u32, t: &Table, out: &mut Vec<Case>) {
         t.with(|v| !matches!(v.shape, Shape::Control | Shape::VmvXS) && v.fixed & 0x7f != 0x57);
     for _ in 0..1000 {
         let words = 6 + rng.below(18);
-        let kernel = (0..words)
-            .map(|at| {
-                let p = Place { at, words, forward: rng.chance(2), wild: true };
-                let v = match rng.below(20) {
-                    0..=4 => rng.pick(&vector),
-                    5..=7 => rng.pick(&memory),
-                    8..=10 => rng.pick(&vbranch),
-                    11..=12 => return JOIN,
-                    13 => t.get("setrpc"),
-                    14 if rng.chance(6) => return rng.pick(&[ENDPRG, BARRIER]),
-                    15 if rng.chance(6) => t.get("vmv.x.s"),
-                    _ => rng.pick(&scalar),
-                };
-                draw(rng, v, p)
-            })
-            .collect();
-        let g = ground(rng, words);
+        let mut kernel = Vec::new();
+        while (kernel.len() as u32) < words {
+            let at = kernel.len() as u32;
+            let p = Place { at, words, forward: rng.chance(2), wild: true };
+            let v = match rng.below(20) {
+                0..=4 => rng.pick(&vector),
+                5..=7 => rng.pick(&memory),
+                8..=10 => rng.pick(&vbranch),
+                11..=12 => t.get("join"),
+                13 => t.get("setrpc"),
+                14 if rng.chance(6) => t.get(rng.pick(&["endprg", "barrier"])),
+                15 if rng.chance(6) => t.get("vmv.x.s"),
+                _ => rng.pick(&scalar),
+            };
+            push_drawn(rng, t, v, p, &mut kernel);
+        }
+        let g = ground(rng, kernel.len() as u32);
         let depth = rng.pick(&[0, 0, 0, 1, 2, 3, 4, 12]);
         let mut warp = random_state(rng, &g, words, depth);
         if rng.chance(3) {
@@ -591,7 +664,7 @@ impl<'a> Builder<'a> {
         self.bad != 0 && rng.chance(self.bad)
     }
 
-    /// v1 = lane, v2 = an address, v3 = a small number, x8 = the data base.
+    /// v1 = lane, v2 = an address, v3 = 0 to 28 in fours, x8 = the data base.
     fn prelude(&mut self, rng: &mut Rng, data_base: u32) {
         self.op("vid.v", rd(1));
         let high = data_base.wrapping_add(0x800) & 0xffff_f000;
@@ -601,6 +674,7 @@ impl<'a> Builder<'a> {
         self.op("vsll.vi", rd(2) | rs2(1) | rs1(shift));
         self.op("vadd.vx", rd(2) | rs2(2) | rs1(8));
         self.op("vand.vi", rd(3) | rs2(1) | rs1(rng.pick(&[1, 3, 7])));
+        self.op("vsll.vi", rd(3) | rs2(3) | rs1(2));
         self.op("vxor.vi", rd(4) | rs2(1) | rs1(rng.below(32)));
         if rng.chance(2) {
             self.op("vmul.vv", rd(5) | rs2(1) | rs1(4));
@@ -652,25 +726,19 @@ impl<'a> Builder<'a> {
 
     /// A load or store, flat at v2 or private at v3.
     fn lane_access(&mut self, rng: &mut Rng) {
-        let off = rng.range(0, 16);
-        match rng.below(4) {
-            0 => {
-                let name = rng.pick(&["vlb12", "vlh12", "vlw12", "vlbu12", "vlhu12"]);
-                self.op(name, rd(4 + rng.below(12)) | rs1(2) | enc_i(off));
-            }
-            1 => {
-                let name = rng.pick(&["vsb12", "vsh12", "vsw12"]);
-                self.op(name, rs2(1 + rng.below(15)) | rs1(2) | enc_s(off));
-            }
-            2 => {
-                let name = rng.pick(&["vlb.p", "vlh.p", "vlw.p", "vlbu.p", "vlhu.p"]);
-                self.op(name, rd(4 + rng.below(12)) | rs1(3) | enc_i(off & 3));
-            }
-            _ => {
-                let name = rng.pick(&["vsb.p", "vsh.p", "vsw.p"]);
-                self.op(name, rs2(1 + rng.below(15)) | rs1(3) | enc_s(off & 3));
-            }
-        }
+        let (loads, stores) = (["lb", "lh", "lw", "lbu", "lhu"], ["sb", "sh", "sw"]);
+        let (name, value) = match rng.below(2) {
+            0 => (rng.pick(&loads), 4 + rng.below(12)),
+            _ => (rng.pick(&stores), 1 + rng.below(15)),
+        };
+        let word = if rng.chance(2) {
+            access(self.t.get(&format!("v{name}12")), 2, value, rng.range(0, 16))
+        } else {
+            let v = self.t.get(&format!("v{name}.p"));
+            let low = Low::mostly_fitting(rng, size_of(v));
+            access(v, 3, value, 4 * rng.range(0, 3) + low.at as i32)
+        };
+        self.words.push(word);
     }
 
     /// Two holes for AUIPC and SETRPC.
@@ -751,11 +819,8 @@ fn structured(round: u32, t: &Table, out: &mut Vec<Case>) {
         let mut b =
             Builder::new(t, rng.pick(&[20, 28, 34, 34, 60]), if n % 2 == 0 { 0 } else { 4 });
         let mut g = ground(rng, 200);
-        if g.fixed.numw > 3 {
-            (g.fixed.numw, g.fixed.wid) = (2, 1);
-        }
-        let stride = g.fixed.numt * g.fixed.numw;
-        g.data.total = (stride * 12 + 16).max(160);
+        // Private: u at most 43, which is in the eleventh word of each lane.
+        g.data.total = (44 * g.fixed.numt + 4).max(160);
         g.fixed.data_base = rng.pick(&[0, 0x1001, 0x9000_0000, 0x7fff_ffc0]);
         g.fixed.pds = g.fixed.data_base.wrapping_add(rng.below(5));
         g.vector.seed = if rng.chance(4) { rng.word() } else { 0 };
@@ -968,15 +1033,8 @@ fn near_words(round: u32, t: &Table, out: &mut Vec<Case>) {
 fn data_ends(round: u32, t: &Table, out: &mut Vec<Case>) {
     let mut rng = Rng::of_family(round, 8);
     let rng = &mut rng;
-    let memory = t.with(touches_memory);
-    for v in memory {
-        let width =
-            v.name.trim_start_matches('v')[1..].trim_end_matches("12").trim_end_matches(".p");
-        let size = match width {
-            "b" | "bu" => 1,
-            "h" | "hu" => 2,
-            _ => 4,
-        };
+    for v in t.with(touches_memory) {
+        let size = size_of(v);
         for total in [0u32, 3, 24] {
             let top = (1u64 << 32).wrapping_sub(u64::from(total)) as u32;
             for base in [0x9000_0000, top, 0] {
@@ -1009,25 +1067,212 @@ fn data_end(rng: &mut Rng, v: &Variant, total: u32, base: u32, place: u32) -> Ca
     let off = rng.range(-40, 40);
     g.vector.base = place.wrapping_sub(off as u32);
     g.vector.mask = 0;
-    let field = match v.shape {
-        Shape::Load | Shape::Vload => rd(5) | enc_i(off),
-        Shape::Store | Shape::Vstore => rs2(4) | enc_s(off),
-        Shape::PrivateLoad => rd(5) | enc_i(off & 0x7ff),
-        _ => rs2(4) | enc_s(off & 0x7ff),
-    };
-    if matches!(v.shape, Shape::PrivateLoad | Shape::PrivateStore) {
-        // One thread in all: address = vs1 + offset + PDS.
-        (g.fixed.numt, g.fixed.mask) = (1, 1);
-        let low = rng.pick(&[0, 7, 0xffff_fff0]);
-        g.fixed.pds = low;
-        g.vector.base = g.vector.base.wrapping_sub(low);
+    if is_private(v) {
+        let lane = rng.below(32);
+        g.fixed.numt = lane + 1 + rng.below(32 - lane);
+        (g.fixed.numw, g.fixed.wid, g.fixed.mask) = (5, 3, 1 << lane);
+        let low = if rng.chance(3) { Low::any(rng) } else { Low::fitting(rng, size_of(v)) };
+        let u = 4 * rng.pick(&[0, 1, 7, 255, 0x3fff_ffff]) + low.at;
+        g.fixed.pds = place.wrapping_sub(private_rise(&g.fixed, lane, u));
+        g.vector.base = u.wrapping_sub(off as u32);
     }
     let mut warp = Warp { fixed: g.fixed, mask: g.fixed.mask, ..Warp::default() };
     warp.pc = g.fixed.code_base;
     warp.x[2] = g.vector.base;
     warp.x[4] = rng.word();
-    let kernel = vec![v.fixed | rs1(2) | field];
+    let kernel = vec![access(v, 2, 4, off)];
     state_case(&warp, kernel, g, 1)
+}
+
+/// How far above PDS a lane's private byte u is.
+fn private_rise(f: &Fixed, lane: u32, u: u32) -> u32 {
+    address(&Fixed { pds: 0, ..*f }, Space::Private, lane as usize, u)
+}
+
+/// Private accesses of many lanes.
+fn privates(round: u32, t: &Table, out: &mut Vec<Case>) {
+    let mut rng = Rng::of_family(round, 19);
+    for v in t.with(is_private) {
+        // A byte can't cross.
+        let count = if size_of(v) == 1 { 20 } else { 40 };
+        for _ in 0..count {
+            out.push(private_case(&mut rng, t, v));
+        }
+    }
+    for name in ["vsb.p", "vsh.p", "vsw.p"] {
+        for _ in 0..4 {
+            out.push(meeting_lanes(&mut rng, t, name));
+        }
+    }
+}
+
+/// Which lanes of a private access cross a word boundary, or are far from the others.
+#[derive(Clone, Copy, PartialEq, Eq)]
+enum Lanes {
+    NoneCross,
+    AllCross,
+    /// Any u mod 4 in each lane.
+    Any,
+    /// Only lanes that are not active would cross.
+    IdleCross,
+    OneCrosses,
+    OneFar,
+    OneFarCrosses,
+    OneCrossesOthersFar,
+}
+
+/// Between lanes that are far from each other, in bytes of u.
+const FAR: u32 = 4096;
+
+impl Lanes {
+    fn draw(rng: &mut Rng, size: u32) -> Lanes {
+        let any = [
+            Lanes::AllCross,
+            Lanes::Any,
+            Lanes::IdleCross,
+            Lanes::OneFar,
+            Lanes::OneFarCrosses,
+            Lanes::OneCrossesOthersFar,
+        ];
+        match rng.below(12) {
+            0..=2 => Lanes::NoneCross,
+            _ if size == 1 => rng.pick(&[Lanes::NoneCross, Lanes::OneFar]),
+            3..=4 => Lanes::OneCrosses,
+            _ => rng.pick(&any),
+        }
+    }
+    fn low(self, rng: &mut Rng, size: u32) -> Low {
+        match self {
+            Lanes::NoneCross => Low::fitting(rng, size),
+            Lanes::AllCross | Lanes::IdleCross => Low::crossing(rng, size),
+            Lanes::Any => Low::any(rng),
+            _ => Low { vary: 0, ..Low::fitting(rng, size) },
+        }
+    }
+    /// What is added to every lane's u: far, where only the one that crosses is near.
+    fn beyond(self) -> u32 {
+        u32::from(self == Lanes::OneCrossesOthersFar) * FAR
+    }
+    /// What the one lane's u is raised by; the others' is at `low` mod 4.
+    fn raise(self, rng: &mut Rng, size: u32, low: u32) -> u32 {
+        let cross = |rng: &mut Rng| rng.range((5 - size - low) as i32, (3 - low) as i32) as u32;
+        match self {
+            Lanes::OneCrosses => cross(rng),
+            Lanes::OneFar => FAR,
+            Lanes::OneFarCrosses => FAR + cross(rng),
+            Lanes::OneCrossesOthersFar => cross(rng).wrapping_sub(FAR),
+            _ => 0,
+        }
+    }
+    /// What changes v6, u less the offset: lane x5's is raised by x6, or the low bits of active
+    /// lanes are cleared.
+    fn words(self, t: &Table) -> Vec<u32> {
+        match self {
+            Lanes::NoneCross | Lanes::AllCross | Lanes::Any => vec![],
+            Lanes::IdleCross => vec![t.fixed("vand.vi") | rd(6) | rs2(6) | rs1(-4i32 as u32 & 31)],
+            _ => vec![
+                t.fixed("vid.v") | rd(1),
+                t.fixed("vmseq.vx") | rd(1) | rs2(1) | rs1(5),
+                t.fixed("vmul.vx") | rd(1) | rs2(1) | rs1(6),
+                t.fixed("vadd.vv") | rd(6) | rs2(6) | rs1(1),
+            ],
+        }
+    }
+}
+
+/// A private access of variant `v` and one of the same size.
+fn private_case(rng: &mut Rng, t: &Table, v: &Variant) -> Case {
+    let size = size_of(v);
+    let lanes = Lanes::draw(rng, size);
+    let low = lanes.low(rng, size);
+    let spread = rng.pick(&[0, 4, 12, 28]);
+    let u = private_start(rng);
+    let numt = 1 + rng.below(32);
+    let mut g = private_ground(rng, numt, u, spread / 4 + 2);
+    let off = if lanes == Lanes::IdleCross { 4 * rng.range(-9, 9) } else { rng.range(-40, 40) };
+    g.vector.base = (u + low.at).wrapping_add(lanes.beyond()).wrapping_sub(off as u32);
+    g.vector.mask = spread | low.vary;
+    let mut kernel = lanes.words(t);
+    let other = rng.pick(&t.with(|other| is_private(other) && size_of(other) == size));
+    for v in [v, other] {
+        kernel.push(access(v, 6, rng.pick(&[0, 3, 6, 9, 12, 31]), off));
+    }
+    let words = kernel.len() as u32;
+    let mut warp = Warp { fixed: g.fixed, mask: g.fixed.mask, ..Warp::default() };
+    warp.pc = g.fixed.code_base;
+    let depth = rng.pick(&[0, 0, 1, 2]);
+    open_splits(rng, &mut warp, words, depth);
+    warp.x[5] = active_lane(rng, warp.mask);
+    warp.x[6] = lanes.raise(rng, size, low.at);
+    state_case(&warp, kernel, g, words)
+}
+
+/// A multiple of 4, mostly below 1,024.
+fn private_start(rng: &mut Rng) -> u32 {
+    match rng.below(8) {
+        0 => rng.word() & !3,
+        1 => rng.pick(&[0xffff_fff0, 0xffff_fffc, 0x7fff_fffc, 0x8000_0000, 0x0800_0000]),
+        _ => 4 * rng.below(240),
+    }
+}
+
+/// The lowest, the highest or any lane of the mask.
+fn active_lane(rng: &mut Rng, mask: u32) -> u32 {
+    let one = match rng.below(3) {
+        0 => mask,
+        1 => return 31 - mask.leading_zeros(),
+        _ => some_lanes(rng, mask),
+    };
+    one.trailing_zeros()
+}
+
+/// So many rows of private words, from u on: mostly inside the data, else cut by its beginning or
+/// its end, or outside.
+fn private_ground(rng: &mut Rng, numt: u32, u: u32, rows: u32) -> Ground {
+    let mut g = plain_ground();
+    let mask = if rng.chance(2) { some_lanes(rng, low_mask(numt)) } else { low_mask(numt) };
+    (g.fixed.numt, g.fixed.mask) = (numt, mask);
+    g.fixed.numw = 1 + rng.below(32);
+    g.fixed.wid = rng.below(g.fixed.numw);
+    let row = 4 * numt;
+    let (bytes, cut) = (rows * row, 1 + rng.below(row));
+    let (total, start) = match rng.below(10) {
+        0 => (bytes, cut.wrapping_neg()),
+        1 => (bytes - cut, 0),
+        2 => (bytes, rng.pick(&[bytes, bytes.wrapping_neg()])),
+        _ => (bytes + cut, rng.below(cut + 1)),
+    };
+    let top = total.wrapping_neg();
+    g.fixed.data_base = rng.pick(&[0, 0x1001, 0x7fff_ffc0, 0x9000_0000, top]);
+    let first = private_rise(&g.fixed, 0, u);
+    g.fixed.pds = g.fixed.data_base.wrapping_add(start).wrapping_sub(first);
+    g.data = Data { bytes: Vec::new(), total, seed: rng.word() };
+    g.vector.seed = rng.word();
+    g
+}
+
+/// Private words of different lanes that meet, which takes huge u's: x6 times NUMT is -4.
+fn meeting_lanes(rng: &mut Rng, t: &Table, name: &str) -> Case {
+    let numt = 3 + 2 * rng.below(15);
+    let g = private_ground(rng, numt, 0, 1);
+    let v = t.get(name);
+    let low = Low::fitting(rng, size_of(v));
+    let kernel = vec![
+        t.fixed("vid.v") | rd(1),
+        t.fixed("vmul.vx") | rd(2) | rs2(1) | rs1(6),
+        access(v, 2, 4, low.at as i32),
+        t.fixed("vlw.p") | rd(3) | rs1(2),
+    ];
+    let mut warp = Warp { fixed: g.fixed, mask: g.fixed.mask, ..Warp::default() };
+    warp.pc = g.fixed.code_base;
+    warp.x[6] = inverse(numt).wrapping_mul(4).wrapping_neg();
+    state_case(&warp, kernel, g, 4)
+}
+
+/// What times the odd number is 1, modulo 2^32; each turn doubles the bits that are right, three
+/// at first.
+fn inverse(odd: u32) -> u32 {
+    (0..4).fold(odd, |y, _| y.wrapping_mul(2u32.wrapping_sub(odd.wrapping_mul(y))))
 }
 
 /// Stores whose lanes meet, and one lane outside among many inside.

@@ -44,6 +44,8 @@ pub enum Refusal {
     NotWaiting = 12,
     /// 13: malformed launch card.
     Card = 13,
+    /// 14: a private access that crosses a word boundary of its lane.
+    Crossing = 14,
 }
 
 impl Refusal {

@@ -628,23 +628,336 @@ fn the_highest_lane_wins() {
     assert_eq!(&bench.data[..9], &[0x44, 0x44, 0x44, 0x44, 0x33, 0x33, 0x33, 0x33, 0]);
 }
 
+/// The private accesses and their sizes.
+const PRIVATE: [(&str, u32); 8] = [
+    ("vlb.p", 1),
+    ("vlbu.p", 1),
+    ("vlh.p", 2),
+    ("vlhu.p", 2),
+    ("vlw.p", 4),
+    ("vsb.p", 1),
+    ("vsh.p", 2),
+    ("vsw.p", 4),
+];
+
+/// A private access at v1 plus offset: a load into v4, or a store from v2.
+fn private(name: &str, off: i32) -> u32 {
+    if name.starts_with("vs") {
+        s(name, 1, 2, off & 0x7ff)
+    } else {
+        i(name, 4, 1, off & 0x7ff)
+    }
+}
+
+/// One private access, and a second of the same; lane l stores a0 + l in each byte.
+fn private_bench(launch: &Launch, name: &str, off: i32, data: usize) -> Bench {
+    let mut bench = Bench::launched(launch, &[private(name, off); 2], data);
+    for lane in 0..32 {
+        bench.vector[2 * 32 + lane] = 0x0101_0101 * (0xa0 + lane as u32);
+    }
+    bench
+}
+
+/// NUMT lanes, all active, with the private base.
+fn private_launch(numt: u32, pds: u32) -> Launch {
+    let mut l = launch(numt);
+    l.fixed.pds = pds;
+    l
+}
+
 #[test]
 fn private_addresses() {
-    // offset -3 in 11 bits; store: bits 30 to 25 and 11 to 7
-    let off = -3i32 as u32 & 0x7ff;
-    let load = variant("vlb.p") | 4 << 7 | 1 << 15 | off << 20;
-    let store = variant("vsb.p") | (off & 31) << 7 | 1 << 15 | 2 << 20 | (off >> 5) << 25;
-    let mut l = launch(4);
-    (l.fixed.numw, l.fixed.wid, l.fixed.pds) = (3, 2, DATA + 5);
-    let mut bench = Bench::launched(&l, &[store, load], 64);
-    bench.set_v(1, &[3, 4, 5, 6]);
+    let l = private_launch(4, DATA + 5);
+    let mut bench = Bench::launched(&l, &[private("vsb.p", -3), private("vlb.p", -3)], 64);
+    bench.set_v(1, &[3, 8, 13, 10]); // u: 0, 5, 10, 7
     bench.set_v(2, &[0x81, 0x82, 0x83, 0x84]);
     assert_eq!(bench.run(2), (0, 2));
-    for lane in 0..4 {
-        // (vs1 - 3) * 12 + 8 + lane + 5
-        assert_eq!(bench.data[lane * 12 + 13 + lane], 0x81 + lane as u8);
+    // PDS is 5: the word of u times 4, u mod 4, 4 times the lane
+    for (lane, at) in [5, 5 + 16 + 1 + 4, 5 + 32 + 2 + 8, 5 + 16 + 3 + 12].into_iter().enumerate() {
+        assert_eq!(bench.data[at], 0x81 + lane as u8);
         assert_eq!(bench.v(4, lane), 0xffff_ff81 + lane as u32);
     }
+    assert_eq!(bench.data.iter().filter(|b| **b != 0).count(), 4);
+}
+
+/// 4 lanes, PDS 1000, u = 8, lane 1: 1024 (hexadecimal).
+#[test]
+fn private_worked_case() {
+    let mut l = private_launch(4, 0x1000);
+    (l.fixed.data_base, l.fixed.mask) = (0x1000, 2);
+    let mut bench = private_bench(&l, "vsw.p", 0, 0x28);
+    bench.set_v(1, &[0, 8]);
+    assert_eq!(bench.step(), 0);
+    assert_eq!(bench.data[0x24..], [0xa1; 4]);
+    assert_eq!(bench.data[..0x24], [0; 0x24]);
+}
+
+#[test]
+fn private_words_stand_side_by_side() {
+    let l = private_launch(4, DATA);
+    let mut bench = Bench::launched(&l, &[private("vsw.p", 0), private("vsw.p", 4)], 32);
+    bench.set_v(2, &[10, 11, 12, 13]);
+    assert_eq!(bench.step(), 0);
+    bench.set_v(2, &[14, 15, 16, 17]);
+    assert_eq!(bench.step(), 0);
+    for word in 0..8 {
+        assert_eq!(bench.data[4 * word..][..4], [10 + word as u8, 0, 0, 0]);
+    }
+}
+
+#[test]
+fn numt_enters_a_private_address_and_numw_and_wid_do_not() {
+    for numt in 1..=32 {
+        for (numw, wid) in [(1, 0), (2, 1), (3, 0), (32, 31)] {
+            let mut l = private_launch(numt, DATA + 1);
+            (l.fixed.numw, l.fixed.wid) = (numw, wid);
+            let mut bench = private_bench(&l, "vsb.p", 3, 2000);
+            bench.set_v(1, &[8; 32]);
+            assert_eq!(bench.step(), 0);
+            for lane in 0..numt {
+                let at = 1 + 8 * numt + 3 + 4 * lane;
+                assert_eq!(bench.data[at as usize], 0xa0 + lane as u8);
+            }
+            let stored = bench.data.iter().filter(|b| **b != 0).count();
+            assert_eq!(stored, numt as usize);
+        }
+    }
+}
+
+#[test]
+fn private_sums_and_addresses_wrap() {
+    // (NUMT, PDS, v1, offset, place in the data, whose base is 0), of lane 0
+    let cases = [
+        (4, 32, 0, -4, 16),
+        (4, 32, u32::MAX - 1, 6, 48),
+        (4, 0u32.wrapping_sub(16), 4, 0, 0),
+        (4, 0u32.wrapping_sub(16), 12, 4, 48),
+        (32, 0, 1 << 27, 0, 0),
+        (32, 0, 1 << 27, -1024, 0u32.wrapping_sub(32 * 1024)),
+        (3, 4, 0x5555_5555, -1, 0),
+        (1, 64, 1023, -1023, 64),
+        (1, 0, 0u32.wrapping_sub(1020), 1020, 0),
+    ];
+    for (numt, pds, base, off, at) in cases {
+        let mut l = private_launch(numt, pds);
+        (l.fixed.data_base, l.fixed.mask) = (0, 1);
+        let mut bench = private_bench(&l, "vsw.p", off, 80);
+        bench.set_v(1, &[base]);
+        if at < 80 {
+            assert_eq!(bench.step(), 0);
+            assert_eq!(bench.data[at as usize..][..4], [0xa0; 4]);
+        } else {
+            bench.refused(9);
+        }
+    }
+}
+
+/// Three times 5555_5554 is 4 below 2^32: lane by lane, the words fall on one place.
+#[test]
+fn private_words_meet_by_wrapping_alone() {
+    let mut bench = private_bench(&private_launch(3, DATA), "vsw.p", 0, 4);
+    bench.set_v(1, &[0, 0x5555_5554, 0xaaaa_aaa8]);
+    assert_eq!(bench.step(), 0);
+    assert_eq!(bench.data, [0xa2; 4]);
+}
+
+#[test]
+fn crossing_edges() {
+    for (name, size) in PRIVATE {
+        // where in a word an access of the size may begin at last
+        let last = match size {
+            1 => 3,
+            2 => 2,
+            _ => 0,
+        };
+        for u in [0u32, 8, 1020, 0xffff_fff8] {
+            for low in 0..4 {
+                let mut l = private_launch(2, DATA.wrapping_sub(2 * u));
+                l.fixed.mask = 1;
+                let mut bench = private_bench(&l, name, 0, 8);
+                bench.set_v(1, &[u + low]);
+                if low > last {
+                    bench.refused(14);
+                } else {
+                    assert_eq!(bench.step(), 0, "{name} {low}");
+                }
+            }
+        }
+    }
+}
+
+/// The sum decides, not the register or the offset.
+#[test]
+fn crossing_is_of_the_sum() {
+    for (base, off, crosses) in [
+        (3u32, -3, false),
+        (4, -1, true),
+        (0, -4, false),
+        (0, -3, true),
+        (1, -1021, false),
+        (1023, 1, false),
+        (0, 1023, true),
+        (u32::MAX, 1, false),
+        (u32::MAX - 2, 1023, false),
+        (u32::MAX, -1024, true),
+    ] {
+        let sum = base.wrapping_add(off as u32);
+        for name in ["vlw.p", "vsw.p"] {
+            let mut bench = private_bench(&private_launch(1, DATA.wrapping_sub(sum)), name, off, 8);
+            bench.set_v(1, &[base]);
+            if crosses {
+                bench.refused(14);
+            } else {
+                assert_eq!(bench.step(), 0, "{name} {base} {off}");
+            }
+        }
+    }
+}
+
+#[test]
+fn any_active_lane_that_crosses_is_enough() {
+    for (name, size) in PRIVATE.into_iter().filter(|(_, size)| *size > 1) {
+        for lane in 0..32 {
+            let mut bench = private_bench(&private_launch(32, DATA), name, 4, 256);
+            bench.set_v(1, &[0; 32]);
+            bench.vector[32 + lane] = 5 - size;
+            bench.refused(14);
+            bench.vector[32 + lane] = 4 - size;
+            assert_eq!(bench.step(), 0);
+        }
+        let mut bench = private_bench(&private_launch(32, DATA), name, 0, 256);
+        bench.set_v(1, &[3; 32]);
+        bench.refused(14);
+    }
+}
+
+#[test]
+fn lanes_that_are_not_active_may_cross() {
+    for (name, _) in PRIVATE.into_iter().filter(|(_, size)| *size > 1) {
+        let mut l = private_launch(4, DATA);
+        l.fixed.mask = 0b0101;
+        let mut bench = private_bench(&l, name, 0, 16);
+        bench.set_v(1, &[0, 3, 0, 3, 3]);
+        assert_eq!(bench.step(), 0);
+        // Lane 2 parked in a split, then running and lane 0 parked.
+        let (rpc, else_pc) = (CODE, CODE);
+        bench.warp.splits[0] = Split { rpc, full: 5, else_mask: 4, else_pc, phase_two: false };
+        (bench.warp.depth, bench.warp.mask, bench.warp.pc) = (1, 1, CODE);
+        bench.set_v(1, &[0, 3, 3, 3]);
+        assert_eq!(bench.step(), 0);
+        (bench.warp.splits[0].phase_two, bench.warp.mask) = (true, 4);
+        bench.refused(14);
+        bench.set_v(1, &[3, 3, 0, 3]);
+        assert_eq!(bench.step(), 0);
+    }
+}
+
+#[test]
+fn crossing_comes_before_outside() {
+    const FAR: u32 = 1 << 20;
+    for (name, size) in PRIVATE.into_iter().filter(|(_, size)| *size > 1) {
+        let cross = 5 - size;
+        for (sums, number) in [
+            ([FAR + cross, 0, 0, 0], 14), // one lane, both
+            ([0, 0, 0, FAR + cross], 14),
+            ([FAR, 0, 0, cross], 14), // a lane outside, a later one crosses
+            ([cross, 0, 0, FAR], 14),
+            ([FAR, FAR, cross, FAR], 14),
+            ([FAR + cross; 4], 14),
+            ([FAR, 0, 0, 0], 9),
+            ([0, 0, 0, FAR], 9),
+            ([FAR; 4], 9),
+        ] {
+            let mut bench = private_bench(&private_launch(4, DATA), name, 0, 32);
+            bench.set_v(1, &sums);
+            bench.refused(number);
+        }
+        // No data at all, and a lane that is not active.
+        let mut bench = private_bench(&private_launch(4, DATA), name, 0, 0);
+        bench.set_v(1, &[0, 0, 0, 0, cross]);
+        bench.refused(9);
+        bench.set_v(1, &[0, 0, 0, cross]);
+        bench.refused(14);
+    }
+}
+
+#[test]
+fn private_accesses_at_the_data_end() {
+    for (name, size) in PRIVATE {
+        // One lane at u = 4 - size, so that its access ends at PDS + 4.
+        for (pds, data, number) in [
+            (DATA, 4, 0),
+            (DATA, 3, 9),
+            (DATA - 4 + size, size as usize, 0),
+            (DATA - 5 + size, size as usize, 9),
+        ] {
+            let mut bench = private_bench(&private_launch(1, pds), name, 0, data);
+            bench.set_v(1, &[4 - size]);
+            match number {
+                0 => assert_eq!(bench.step(), 0, "{name}"),
+                _ => bench.refused(number),
+            }
+        }
+    }
+}
+
+#[test]
+fn plain_accesses_never_cross() {
+    for (word, at) in [
+        (s("vsw12", 1, 2, 0), 1),
+        (i("vlw12", 4, 1, 0), 3),
+        (s("vsh12", 1, 2, 0), 3),
+        (i("vlhu12", 4, 1, 0), 3),
+        (i("lw", 4, 1, 0), 1),
+        (s("sh", 1, 2, 0), 3),
+    ] {
+        let mut bench = Bench::new(2, &[word], 8);
+        bench.warp.x[1] = DATA + at;
+        bench.set_v(1, &[DATA + at; 2]);
+        assert_eq!(bench.step(), 0);
+        let mut bench = Bench::new(2, &[word], 8);
+        bench.warp.x[1] = DATA - at;
+        bench.set_v(1, &[DATA, DATA - at]);
+        bench.refused(9);
+    }
+}
+
+/// The private steps that crates/traces/specs/Worked.antt works out: lanes 0, 2 and 3 of 4, warp 1
+/// of 2, data and private memory at 0x1000.
+#[test]
+fn worked_private_steps() {
+    const LOW: [u8; 16] = [
+        0x7f, 0x80, 0x81, 0xff, 0x11, 0x22, 0x33, 0x84, 0x91, 0x92, 0x93, 0x94, 0x95, 0x96, 0x97,
+        0x98,
+    ];
+    let mut l = private_launch(4, 0x1000);
+    (l.fixed.numw, l.fixed.wid, l.fixed.mask, l.fixed.data_base) = (2, 1, 0xd, 0x1000);
+    let worked = |word: u32, v1: [u32; 4], v2: [u32; 4]| {
+        let mut bench = Bench::launched(&l, &[word], 32);
+        bench.data[..16].copy_from_slice(&LOW);
+        bench.set_v(1, &v1);
+        bench.set_v(2, &v2);
+        let number = bench.step();
+        assert_eq!(bench.warp.pc, if number == 0 { CODE + 4 } else { CODE });
+        assert_eq!(bench.data[..16], LOW);
+        let v2 = [0, 1, 2, 3].map(|lane| bench.v(2, lane));
+        (number, v2, bench.data[16..].to_vec())
+    };
+    let nines = [9; 4];
+    let words = [0xa1a2_a3a4, 0xb1b2_b3b4, 0xc1c2_c3c4, 0xd1d2_d3d4];
+    let zeros = vec![0; 16];
+
+    let loaded = [0xffff_ff80, 9, 0xffff_ff91, 0xffff_ff98];
+    assert_eq!(worked(0x7ff0_812b, [2, 7, 1, 4], nines), (0, loaded, zeros.clone()));
+    let bytes = vec![0xa4, 0, 0, 0, 0, 0, 0, 0, 0, 0, 0xc4, 0, 0, 0, 0, 0xd4];
+    assert_eq!(worked(0x7e20_ffab, [5, 5, 7, 8], words), (0, words, bytes));
+    let side = [words[0], 0, words[2], words[3]].map(u32::to_le_bytes).concat();
+    assert_eq!(worked(0x0020_e02b, [4, 5, 4, 4], words), (0, words, side));
+
+    assert_eq!(worked(0x0020_e02b, [4, 4, 4, 5], words), (14, words, zeros.clone()));
+    assert_eq!(worked(0x0000_912b, [2, 2, 2, 3], nines), (14, nines, zeros.clone()));
+    assert_eq!(worked(0x0020_e02b, [5, 4, 400, 4], words), (14, words, zeros.clone()));
+    assert_eq!(worked(0x0020_e02b, [4, 4, 400, 4], words), (9, words, zeros));
 }
 
 #[test]

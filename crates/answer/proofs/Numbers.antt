@@ -3,7 +3,7 @@ use Prim.Native.Nat.{ℕ}
 use mathlib.Core.Path.{_≡_, refl, sym, _∙_, ap}
 use mathlib.Core.List.{[], _∷_}
 use lib.ListN.{getD}
-use Rattle.answer.specs.declared.Refusal.the-variants.{Size, Malformed, Ended, Waiting, OffKernel, Unknown, BadCsr, BadTarget, Outside, Differing, SplitOpen, NotWaiting, BadCard}
+use Rattle.answer.specs.declared.Refusal.the-variants.{Size, Malformed, Ended, Waiting, OffKernel, Unknown, BadCsr, BadTarget, Outside, Differing, SplitOpen, NotWaiting, BadCard, Crossing}
 use Rattle.answer.specs.declared.Answer.{Answer}
 use Rattle.answer.specs.declared.Answer.the-variants.{Done, Refused}
 use Rattle.answer.specs.Answer.{numberOf}
@@ -12,7 +12,7 @@ numbered : ℕ → Answer
 numbered n =
     getD
     (Done ∷ Refused Size ∷ Refused Malformed ∷ Refused Ended ∷ Refused Waiting ∷ Refused OffKernel ∷ Refused Unknown ∷ Refused BadCsr ∷ Refused BadTarget ∷ Refused Outside
-    ∷ Refused Differing ∷ Refused SplitOpen ∷ Refused NotWaiting ∷ Refused BadCard ∷ [])
+    ∷ Refused Differing ∷ Refused SplitOpen ∷ Refused NotWaiting ∷ Refused BadCard ∷ Refused Crossing ∷ [])
     n Done
 
 back : (a : Answer) → numbered (numberOf a) ≡ a
@@ -31,6 +31,7 @@ back (Refused Differing) = refl
 back (Refused SplitOpen) = refl
 back (Refused NotWaiting) = refl
 back (Refused BadCard) = refl
+back (Refused Crossing) = refl
 
 pub number-one : (a b : Answer) → numberOf a ≡ numberOf b → a ≡ b
 number-one a b e = sym (back a) ∙ ap numbered e ∙ back b

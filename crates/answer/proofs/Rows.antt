@@ -1,13 +1,12 @@
 -- Laws of rows and of lists of tests.
-use Prim.Native.Nat.{ℕ, zero, suc, _≤_, _<_}
-use mathlib.Core.Path.{_≡_, refl, sym}
-use mathlib.Core.Bool.{Bool, true, false, not, _&&_, cond, true≢false}
-use mathlib.Core.List.{List, [], _∷_, _++_}
-use native.Mathlib.Omega.{arith}
-use lib.Dec.{eqb, leb}
+use Prim.Native.Nat.{ℕ, zero, suc}
+use mathlib.Core.Path.{_≡_, refl, sym, ap, _∙_}
+use mathlib.Core.Bool.{Bool, true, false, not, _&&_, _||_, cond, true≢false}
+use mathlib.Core.List.{List, [], _∷_, _++_, map}
+use lib.Dec.{eqb}
 use lib.ListN.{getD}
-use borrow.Author.Tests.{eqb-false, ne-eqb, leb-true, not-true}
-use Rattle.answer.specs.Rows.{Row, _⇒_, first, every, between, Iff}
+use borrow.Author.Tests.{eqb-true, eqb-false, ne-eqb, not-true}
+use Rattle.answer.specs.Rows.{Row, _⇒_, first, every, oneOf, Iff}
 
 -- ---- lists of tests
 
@@ -23,7 +22,7 @@ every-at (t ∷ ts) e (suc i) = every-at ts (both t (every ts) e .1) i
 
 -- ---- lists of rows
 
--- no row holds; no row has the number n; every row's number lies in a range
+-- no row holds; no row has the number n; every row's number passes the test p
 abbrev pub silent : List (Row Bool) → Bool
 silent [] = true
 silent (r ∷ rs) = not (r .is) && silent rs
@@ -32,9 +31,9 @@ abbrev pub without : ℕ → List (Row Bool) → Bool
 without n [] = true
 without n (r ∷ rs) = not (eqb (r .code) n) && without n rs
 
-abbrev pub numbered : ℕ → ℕ → List (Row Bool) → Bool
-numbered low high [] = true
-numbered low high (r ∷ rs) = between low (r .code) high && numbered low high rs
+abbrev pub numbered : (ℕ → Bool) → List (Row Bool) → Bool
+numbered p [] = true
+numbered p (r ∷ rs) = p (r .code) && numbered p rs
 
 pub first-silent : (rs us : List (Row Bool)) → silent rs ≡ true → first (rs ++ us) ≡ first us
 first-silent [] us e = refl
@@ -89,20 +88,37 @@ row-answers (r ∷ rs) us n t z a b =
     go true q i = (λ e. absurd (q e), λ p. absurd (true≢false (sym (p .0))))
     go false q i = i
 
-pub numbered-le : (low high : ℕ) (rs : List (Row Bool)) → numbered low high rs ≡ true → first rs ≤ high
-numbered-le low high [] e = omega arith
-numbered-le low high (r ∷ rs) e =
-    let p = both (between low (r .code) high) (numbered low high rs) e in
-    go (r .is) (leb-true _ _ (both (leb low (r .code)) (leb (r .code) high) (p .0) .1)) (numbered-le low high rs (p .1))
+-- the number answered passes it too, if 0 does
+pub numbered-first : (p : ℕ → Bool) (rs : List (Row Bool)) → p 0 ≡ true → numbered p rs ≡ true → p (first rs) ≡ true
+numbered-first p [] z e = z
+numbered-first p (r ∷ rs) z e =
+    let q = both (p (r .code)) (numbered p rs) e in
+    go (r .is) (q .0) (numbered-first p rs z (q .1))
   where
-    go : (t : Bool) → r .code ≤ high → first rs ≤ high → cond t (r .code) (first rs) ≤ high
+    go : (t : Bool) → p (r .code) ≡ true → p (first rs) ≡ true → p (cond t (r .code) (first rs)) ≡ true
     go true a b = a
     go false a b = b
 
--- a number below those of the rows
-pub numbered-without : (n low high : ℕ) (rs : List (Row Bool)) → n < low → numbered low high rs ≡ true → without n rs ≡ true
-numbered-without n low high [] h e = refl
-numbered-without n low high (r ∷ rs) h e =
-    let p = both (between low (r .code) high) (numbered low high rs) e in
-    let l : low ≤ r .code = leb-true _ _ (both (leb low (r .code)) (leb (r .code) high) (p .0) .0) in
-    rw (ne-eqb (r .code) n (omega arith)) (numbered-without n low high rs h (p .1))
+-- a number that doesn't is no row's
+pub numbered-without : (n : ℕ) (p : ℕ → Bool) (rs : List (Row Bool)) → p n ≡ false → numbered p rs ≡ true → without n rs ≡ true
+numbered-without n p [] h e = refl
+numbered-without n p (r ∷ rs) h e =
+    let q = both (p (r .code)) (numbered p rs) e in
+    rw (ne-eqb (r .code) n (λ (z : r .code ≡ n). true≢false (sym (q .0) ∙ ap p z ∙ h))) (numbered-without n p rs h (q .1))
+
+pub numbered-under : (p q : ℕ → Bool) → ((n : ℕ) → p n ≡ true → q n ≡ true) → (rs : List (Row Bool)) → numbered p rs ≡ true → numbered q rs ≡ true
+numbered-under p q f [] e = refl
+numbered-under p q f (r ∷ rs) e =
+    let h = both (p (r .code)) (numbered p rs) e in
+    rw (f (r .code) (h .0)) (numbered-under p q f rs (h .1))
+
+-- what holds of every number of a list holds of one of them
+pub one-holds : (p : ℕ → Bool) (ns : List ℕ) → every (map p ns) ≡ true → (n : ℕ) → oneOf ns n ≡ true → p n ≡ true
+one-holds p [] e n h = absurd (true≢false (sym h))
+one-holds p (a ∷ ns) e n h =
+    let q = both (p a) (every (map p ns)) e in
+    go (eqb n a) refl h (q .0) (λ y. one-holds p ns (q .1) n y)
+  where
+    go : (t : Bool) → eqb n a ≡ t → (t || oneOf ns n) ≡ true → p a ≡ true → (oneOf ns n ≡ true → p n ≡ true) → p n ≡ true
+    go true z y b k = rw (eqb-true n a z) b
+    go false z y b k = k y

@@ -1,7 +1,7 @@
 -- The number of each refusal and of each answer.
 use Prim.Native.Nat.{ℕ}
 use Rattle.answer.specs.declared.Refusal.{Refusal}
-use Rattle.answer.specs.declared.Refusal.the-variants.{Size, Malformed, Ended, Waiting, OffKernel, Unknown, BadCsr, BadTarget, Outside, Differing, SplitOpen, NotWaiting, BadCard}
+use Rattle.answer.specs.declared.Refusal.the-variants.{Size, Malformed, Ended, Waiting, OffKernel, Unknown, BadCsr, BadTarget, Outside, Differing, SplitOpen, NotWaiting, BadCard, Crossing}
 use Rattle.answer.specs.declared.Answer.{Answer}
 use Rattle.answer.specs.declared.Answer.the-variants.{Done, Refused}
 
@@ -19,10 +19,11 @@ refusalOf Differing = 10
 refusalOf SplitOpen = 11
 refusalOf NotWaiting = 12
 refusalOf BadCard = 13
+refusalOf Crossing = 14
 
 -- the largest
 abbrev pub lastNumber : ℕ
-lastNumber = 13
+lastNumber = 14
 
 abbrev pub numberOf : Answer → ℕ
 numberOf Done = 0

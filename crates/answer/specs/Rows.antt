@@ -1,8 +1,8 @@
 -- Tables of rows: a code and what it stands for, as a refusal's number and its test, or an instruction's code and its operation.
 use Prim.Native.Nat.{ℕ}
-use mathlib.Core.Bool.{Bool, true, _&&_, cond}
+use mathlib.Core.Bool.{Bool, true, false, _&&_, _||_, cond}
 use mathlib.Core.List.{List, [], _∷_}
-use lib.Dec.{leb}
+use lib.Dec.{eqb, leb}
 
 pub record Row (A : Type 0) : Type 0 where
   pub code : ℕ
@@ -24,6 +24,11 @@ every (t ∷ ts) = t && every ts
 
 abbrev pub between : ℕ → ℕ → ℕ → Bool
 between low n high = leb low n && leb n high
+
+-- n is one of the numbers of a list
+abbrev pub oneOf : List ℕ → ℕ → Bool
+oneOf [] n = false
+oneOf (a ∷ rest) n = eqb n a || oneOf rest n
 
 -- when, and only when
 abbrev pub Iff : Type 0 → Type 0 → Type 0

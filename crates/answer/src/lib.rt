@@ -3,7 +3,7 @@ ghost use mathlib.Core.Path.{_≡_};
 ghost use Prim.Native.Nat.{_≤_};
 ghost use Rattle.answer.specs.Answer.{refusalOf, numberOf, lastNumber};
 
-// Why a call was refused: 1 to 13 in this order.
+// Why a call was refused: 1 to 14 in this order.
 pub enum Refusal {
     Size,
     Malformed,
@@ -18,6 +18,7 @@ pub enum Refusal {
     SplitOpen,
     NotWaiting,
     BadCard,
+    Crossing,
 }
 
 pub enum Answer {
@@ -54,6 +55,8 @@ pub const NOT_WAITING: u32 = 12;
 
 pub const BAD_CARD: u32 = 13;
 
+pub const CROSSING: u32 = 14;
+
 fn refusal_number(r: Refusal) -> u32
     ensures { λ n. ⌜ n ≡ refusalOf r ⌝ }
 {
@@ -71,6 +74,7 @@ fn refusal_number(r: Refusal) -> u32
         Refusal::SplitOpen => SPLIT_OPEN,
         Refusal::NotWaiting => NOT_WAITING,
         Refusal::BadCard => BAD_CARD,
+        Refusal::Crossing => CROSSING,
     }
 }
 
@@ -102,6 +106,7 @@ pub fn answer_of(code: u32) -> Answer
         DIFFERING => Answer::Refused(Refusal::Differing),
         SPLIT_OPEN => Answer::Refused(Refusal::SplitOpen),
         NOT_WAITING => Answer::Refused(Refusal::NotWaiting),
-        _ => Answer::Refused(Refusal::BadCard),
+        BAD_CARD => Answer::Refused(Refusal::BadCard),
+        _ => Answer::Refused(Refusal::Crossing),
     }
 }

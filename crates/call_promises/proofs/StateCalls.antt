@@ -1,5 +1,5 @@
 -- What a C host is promised of the calls on a state of 207 words.
-use Prim.Native.Nat.{ℕ, _≤_}
+use Prim.Native.Nat.{ℕ}
 use mathlib.Core.Path.{_≡_, refl, sym, _∙_, ap, subst}
 use mathlib.Core.Bool.{Bool, true, false, not, cond}
 use mathlib.Core.List.{List, [], _∷_}
@@ -7,8 +7,8 @@ use native.Mathlib.Omega.{arith}
 use lib.Dec.{eqb}
 use lib.ListN.{length, getD}
 use borrow.Author.Tests.{ne-eqb, eqb-true}
-use Rattle.answer.specs.Rows.{_⇒_, first}
-use Rattle.answer.proofs.Rows.{passed, numbered-le}
+use Rattle.answer.specs.Rows.{_⇒_, first, oneOf}
+use Rattle.answer.proofs.Rows.{passed, numbered-first}
 use Rattle.isa.specs.declared.Instr.the-variants.{Refused}
 use Rattle.isa.specs.Decode.{decodeOf}
 use Rattle.warp.specs.declared.Launch.{Launch}
@@ -20,7 +20,7 @@ use Rattle.warp.proofs.SplitLaws.{by-cond}
 use Rattle.layout.specs.Words.{stateWords, wordsOf, warpIn, soundIn}
 use Rattle.layout.proofs.Words.{warp-words, words-warp, words-sound, words-long}
 use Rattle.definition.specs.State.{State, state, Outcome, outcome}
-use Rattle.definition.specs.Refuse.{runsOkOf, lastOfStep}
+use Rattle.definition.specs.Refuse.{runsOkOf, stepNumbers}
 use Rattle.definition.specs.Step.{stepOf}
 use Rattle.definition.specs.Calls.{launchOf, Ran, runOf, releaseOf}
 use Rattle.card.specs.Card.{cardSize, headOkAt, launchAt, readCardOf}
@@ -34,7 +34,7 @@ use Rattle.promises.proofs.Determined.{determined-whole}
 use Rattle.promises.proofs.Refusals.{is-zero, step-answers, run-answers, step-keeps, release-refusals}
 use Rattle.promises.proofs.Reached.{reached-sound, never-malformed}
 use Rattle.promises.proofs.Runs.{run-iterates, run-tests, steps-fixed, run-reaches}
-use Rattle.call_promises.specs.StateCalls.{oneOf, whole, LaunchCallAnswers, StepCallAnswers, RunCallAnswers, ReleaseCallAnswers, DecodeCallAnswers, LaunchCallKeeps, StepCallKeeps, RunCallKeeps, RunCallRoom, ReleaseCallKeeps, LaunchCallDetermined, StepCallDetermined, RunCallDetermined, ReleaseCallDetermined, DecodeCallDetermined, Holds, CallLeaves, LaunchCallReaches, StepCallReaches, RunCallReaches, ReleaseCallReaches}
+use Rattle.call_promises.specs.StateCalls.{whole, LaunchCallAnswers, StepCallAnswers, RunCallAnswers, ReleaseCallAnswers, DecodeCallAnswers, LaunchCallKeeps, StepCallKeeps, RunCallKeeps, RunCallRoom, ReleaseCallKeeps, LaunchCallDetermined, StepCallDetermined, RunCallDetermined, ReleaseCallDetermined, DecodeCallDetermined, Holds, CallLeaves, LaunchCallReaches, StepCallReaches, RunCallReaches, ReleaseCallReaches}
 
 -- ---- answers
 
@@ -44,13 +44,13 @@ unless-at P n o s v d p q = by-cond (λ (r : Called). P (r .number)) (eqb n 0) (
 
 pub step-call-answers : StepCallAnswers
 unfolding stepCallOf
-step-call-answers s k v d = unless-at (λ (n : ℕ). n ≤ lastOfStep) (first (wordsTests s k v d)) _ s v d (numbered-le 1 lastOfStep (wordsTests s k v d) refl) (step-answers k _)
+step-call-answers s k v d = unless-at (λ (n : ℕ). oneOf (0 ∷ stepNumbers) n ≡ true) (first (wordsTests s k v d)) _ s v d (numbered-first (oneOf (0 ∷ stepNumbers)) (wordsTests s k v d) refl refl) (step-answers k _)
 
 pub run-call-answers : RunCallAnswers
 unfolding runCallOf
 run-call-answers s k n v d t =
     let rows = 1 ⇒ not (eqb (length t) 1) ∷ wordsTests s k v d in
-    unless-at (λ (c : ℕ). c ≤ lastOfStep) (first rows) _ s v d (numbered-le 1 lastOfStep rows refl) (run-answers k n _)
+    unless-at (λ (c : ℕ). oneOf (0 ∷ stepNumbers) c ≡ true) (first rows) _ s v d (numbered-first (oneOf (0 ∷ stepNumbers)) rows refl refl) (run-answers k n _)
 
 pub launch-call-answers : LaunchCallAnswers
 unfolding launchCallOf readCardOf launchOf

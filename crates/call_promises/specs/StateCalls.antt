@@ -1,15 +1,15 @@
 -- What a C host is promised of the calls on a state of 207 words. What a call leaves (`Called`, `RunCalled`, `Saving`) is all that its caller sees.
-use Prim.Native.Nat.{ℕ, _≤_}
+use Prim.Native.Nat.{ℕ}
 use mathlib.Core.Path.{_≡_}
-use mathlib.Core.Bool.{Bool, true, false, _||_}
+use mathlib.Core.Bool.{true}
 use mathlib.Core.List.{List, [], _∷_}
-use lib.Dec.{eqb}
 use lib.ListN.{length}
+use Rattle.answer.specs.Rows.{oneOf}
 use Rattle.warp.specs.declared.Launch.{Launch}
 use Rattle.warp.specs.declared.Warp.{Warp}
 use Rattle.layout.specs.Words.{wordsOf}
 use Rattle.definition.specs.State.{State, state}
-use Rattle.definition.specs.Refuse.{lastOfStep}
+use Rattle.definition.specs.Refuse.{stepNumbers}
 use Rattle.definition.specs.Step.{stepOf}
 use Rattle.definition.specs.Calls.{runOf, releaseOf}
 use Rattle.card.specs.Card.{readCardOf}
@@ -21,20 +21,15 @@ use Rattle.promises.specs.Reached.{Reached}
 
 -- ---- answers
 
--- n is one of the numbers of a list
-abbrev pub oneOf : List ℕ → ℕ → Bool
-oneOf [] n = false
-oneOf (a ∷ rest) n = eqb n a || oneOf rest n
-
--- A launch answers 0, 1 or 13; a step and a run no number above those of a step's table; a release 0, 1, 2 or 12; a decoding 0 or 6.
+-- A launch answers 0, 1 or 13; a step and a run 0 or a number of a step's table; a release 0, 1, 2 or 12; a decoding 0 or 6.
 abbrev pub LaunchCallAnswers : Type 0
 LaunchCallAnswers = (c k v d s : List ℕ) → oneOf (0 ∷ 1 ∷ 13 ∷ []) (launchCallOf c k v d s .number) ≡ true
 
 abbrev pub StepCallAnswers : Type 0
-StepCallAnswers = (s k v d : List ℕ) → stepCallOf s k v d .number ≤ lastOfStep
+StepCallAnswers = (s k v d : List ℕ) → oneOf (0 ∷ stepNumbers) (stepCallOf s k v d .number) ≡ true
 
 abbrev pub RunCallAnswers : Type 0
-RunCallAnswers = (s k : List ℕ) (n : ℕ) (v d t : List ℕ) → runCallOf s k n v d t .call .number ≤ lastOfStep
+RunCallAnswers = (s k : List ℕ) (n : ℕ) (v d t : List ℕ) → oneOf (0 ∷ stepNumbers) (runCallOf s k n v d t .call .number) ≡ true
 
 abbrev pub ReleaseCallAnswers : Type 0
 ReleaseCallAnswers = (s : List ℕ) → oneOf (0 ∷ 1 ∷ 2 ∷ 12 ∷ []) (releaseCallOf s .number) ≡ true

@@ -2,10 +2,10 @@
 use Prim.Native.Nat.{ℕ, _+_, _≤_, _<_}
 use mathlib.Core.Path.{_≡_, refl, sym}
 use mathlib.Core.Bool.{Bool, true}
-use mathlib.Core.List.{List, []}
+use mathlib.Core.List.{List, [], _∷_}
 use native.Mathlib.Omega.{arith}
 use lib.ListN.{length}
-use Rattle.answer.specs.Rows.{first}
+use Rattle.answer.specs.Rows.{_⇒_, first}
 use Rattle.answer.proofs.Rows.{passed}
 use Rattle.isa.specs.declared.Instr.{Instr}
 use Rattle.isa.specs.declared.Instr.the-variants as I
@@ -14,7 +14,7 @@ use Rattle.lanes.specs.declared.Lane.{Lane}
 use Rattle.memory.specs.LaneAccess.{allInside}
 use Rattle.memory.proofs.Access.{inside-true, all-inside-at}
 use Rattle.definition.specs.State.{State, fixedOf, active, memoryOf, scalarAt, laneAt, instrAt}
-use Rattle.definition.specs.Refuse.{refusalsOf}
+use Rattle.definition.specs.Refuse.{someCrosses, refusalsOf}
 use Rattle.definition.specs.Step.{stepOf}
 use Rattle.definition.proofs.Target.{Target, nothing, scalar, split, lanes, bytes, targetOf}
 use Rattle.definition.proofs.Sound.{step-clear}
@@ -65,7 +65,7 @@ module _ (m : State) where
   lies I.EndPrg h = tt
   lies (I.Barrier n) h = tt
   lies (I.VLoad s k r a n) h = tt
-  lies (I.VStore s k a b n) h = each (widthOf k) (laneAt s a n m) (passed [] [] 9 (allFit (widthOf k) (laneAt s a n m)) refl h)
+  lies (I.VStore s k a b n) h = each (widthOf k) (laneAt s a n m) (passed (14 ⇒ someCrosses s (widthOf k) a n m ∷ []) [] 9 (allFit (widthOf k) (laneAt s a n m)) refl h)
 
 -- A taken step overwrites bytes of the data memory alone.
 pub step-inside : (k : List ℕ) (m : State) → stepOf k m .code ≡ 0 → Lies m (targetOf (instrAt k m) m)

@@ -2,9 +2,9 @@
 use Prim.Native.Nat.{ℕ, _+_, _≤_, _<_}
 use mathlib.Core.Path.{_≡_, refl, sym}
 use mathlib.Core.Bool.{true}
-use mathlib.Core.List.{[]}
+use mathlib.Core.List.{[], _∷_}
 use lib.ListN.{getD}
-use Rattle.answer.specs.Rows.{first}
+use Rattle.answer.specs.Rows.{_⇒_, first}
 use Rattle.answer.proofs.Rows.{passed}
 use Rattle.isa.specs.declared.Instr.the-variants as I
 use Rattle.isa.specs.declared.Space.{Space}
@@ -19,7 +19,7 @@ use Rattle.memory.specs.LaneAccess.{allInside}
 use Rattle.memory.proofs.Access.{inside-true}
 use Rattle.memory.proofs.Laws.{store-at, lanes-highest}
 use Rattle.definition.specs.State.{State, fixedOf, active, xOf, memoryOf, scalarAt, laneAt}
-use Rattle.definition.specs.Refuse.{refusalsOf}
+use Rattle.definition.specs.Refuse.{someCrosses, refusalsOf}
 use Rattle.definition.specs.Exec.{effect, effectOf}
 
 module _ (m : State) where
@@ -39,7 +39,7 @@ module _ (m : State) where
 
     pub lanes-inside : allInside (fixedOf m .numt) (active m) (memoryOf m) (widthOf k) at ≡ true
     unfolding refusalsOf
-    lanes-inside = passed [] [] 9 (allInside (fixedOf m .numt) (active m) (memoryOf m) (widthOf k) at) refl h
+    lanes-inside = passed (14 ⇒ someCrosses s (widthOf k) x n m ∷ []) [] 9 (allInside (fixedOf m .numt) (active m) (memoryOf m) (widthOf k) at) refl h
 
     pub lane-stored : (l : Lane) → l .0 < fixedOf m .numt → active m l ≡ true → (j : ℕ) → j < widthOf k
         → ((i : Lane) → l .0 < i .0 → i .0 < fixedOf m .numt → active m i ≡ true → at i ≤ at l + j → at l + j < at i + widthOf k → ⊥)

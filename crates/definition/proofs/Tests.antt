@@ -1,20 +1,23 @@
 -- The refusal table of a step: which row answers, what a refusal leaves, and a step test by test.
-use Prim.Native.Nat.{ℕ, _≤_, _<_}
+use Prim.Native.Nat.{ℕ, _≤_}
 use mathlib.Core.Path.{_≡_, refl, sym, subst}
-use mathlib.Core.Bool.{Bool, true, false, not, true≢false}
+use mathlib.Core.Bool.{Bool, true, false, not, _&&_, or-true, true≢false}
 use mathlib.Core.List.{List, [], _∷_, _++_}
 use native.Mathlib.Omega.{arith}
-use lib.Dec.{lit≤}
+use lib.Dec.{leb}
 use lib.ListN.{take}
-use borrow.Author.Tests.{ne-eqb}
-use Rattle.answer.specs.Rows.{Row, _⇒_, first, Iff}
-use Rattle.answer.proofs.Rows.{silent, without, numbered, row-answers, numbered-le, numbered-without}
+use borrow.Author.Tests.{leb-true, ne-eqb}
+use Rattle.answer.specs.Rows.{Row, _⇒_, first, oneOf, Iff}
+use Rattle.answer.specs.Answer.{lastNumber}
+use Rattle.answer.proofs.Rows.{both, silent, without, numbered, row-answers, numbered-first, numbered-without, numbered-under, one-holds}
 use Rattle.isa.specs.declared.Instr.{Instr}
 use Rattle.isa.specs.declared.Instr.the-variants as I
+use Rattle.isa.specs.declared.Space.{Space}
+use Rattle.isa.specs.declared.VReg.{VReg}
 use Rattle.isa.specs.Decode.{decodeOf}
 use Rattle.warp.specs.WellFormed.{wellFormedOf}
-use Rattle.definition.specs.State.{State, outcome, fixedOf, instrAt}
-use Rattle.definition.specs.Refuse.{runsOkOf, onKernel, refusalsOf, stepTests, testsOf, lastOfStep}
+use Rattle.definition.specs.State.{State, outcome, fixedOf, laneAt, instrAt}
+use Rattle.definition.specs.Refuse.{runsOkOf, onKernel, someOutside, someCrosses, accessTests, refusalsOf, stepTests, testsOf, stepNumbers}
 use Rattle.definition.specs.Exec.{effect, effectOf}
 use Rattle.definition.specs.Step.{stepOf, execOf, fetchOf}
 
@@ -30,8 +33,11 @@ step-kept k m n = rw (ne-eqb _ _ n)
 
 -- ---- the numbers
 
--- an instruction's rows have the numbers 6 to the last
-pub rows-numbered : (i : Instr) (m : State) → numbered 6 lastOfStep (refusalsOf i m) ≡ true
+-- one of a table's numbers, from 6 on: an instruction's own
+abbrev isOwn : ℕ → Bool
+isOwn n = leb 6 n && oneOf stepNumbers n
+
+pub rows-numbered : (i : Instr) (m : State) → numbered isOwn (refusalsOf i m) ≡ true
 unfolding refusalsOf
 rows-numbered I.Refused m = refl
 rows-numbered (I.Lui r n) m = refl
@@ -59,20 +65,23 @@ rows-numbered (I.Barrier n) m = refl
 rows-numbered (I.VLoad s k r a n) m = refl
 rows-numbered (I.VStore s k a b n) m = refl
 
-tests-le : (a b c d e : Bool) (rs : List (Row Bool)) → first rs ≤ lastOfStep → first (1 ⇒ not a ∷ 2 ⇒ not b ∷ 3 ⇒ c ∷ 4 ⇒ d ∷ 5 ⇒ not e ∷ rs) ≤ lastOfStep
-tests-le false b c d e rs h = lit≤ tt
-tests-le true false c d e rs h = lit≤ tt
-tests-le true true true d e rs h = lit≤ tt
-tests-le true true false true e rs h = lit≤ tt
-tests-le true true false false false rs h = lit≤ tt
-tests-le true true false false true rs h = h
-
--- A step's answer is at most the last of its rows' numbers.
-pub step-known : (k : List ℕ) (m : State) → stepOf k m .code ≤ lastOfStep
+-- A step's answer is 0 or one of its table's numbers, which are refusals' numbers.
+pub step-known : (k : List ℕ) (m : State) → oneOf (0 ∷ stepNumbers) (stepOf k m .code) ≡ true
 unfolding stepOf
 step-known k m =
-    tests-le (runsOkOf (fixedOf m) k (m .vector) (m .bytes)) (wellFormedOf (m .warp)) (m .warp .ended) (m .warp .waiting) (onKernel k (m .warp))
-    (refusalsOf (instrAt k m) m) (numbered-le 6 lastOfStep (refusalsOf (instrAt k m) m) (rows-numbered (instrAt k m) m))
+    numbered-first (oneOf (0 ∷ stepNumbers)) (testsOf k m) refl
+    (numbered-under isOwn (oneOf (0 ∷ stepNumbers)) (λ n h. rw (both (leb 6 n) (oneOf stepNumbers n) h .1, or-true)) (refusalsOf (instrAt k m) m) (rows-numbered (instrAt k m) m))
+
+pub step-last : (k : List ℕ) (m : State) → stepOf k m .code ≤ lastNumber
+step-last k m = leb-true _ _ (one-holds (λ n. leb n lastNumber) (0 ∷ stepNumbers) refl (stepOf k m .code) (step-known k m))
+
+-- An access by lanes that crosses a word boundary is refused for that, wherever its lanes' accesses lie.
+pub crosses-first : (s : Space) (n : ℕ) (a : VReg) (off : ℕ) (m : State) → someCrosses s n a off m ≡ true → first (accessTests s n a off m) ≡ 14
+crosses-first s n a off m e = rw e
+
+-- Where none crosses, 9 decides.
+pub crosses-not : (s : Space) (n : ℕ) (a : VReg) (off : ℕ) (m : State) → someCrosses s n a off m ≡ false → first (accessTests s n a off m) ≡ first (9 ⇒ someOutside n (laneAt s a off m) m ∷ [])
+crosses-not s n a off m e = rw e
 
 -- ---- 'when, and only when', row by row
 
@@ -95,8 +104,8 @@ module _ (k : List ℕ) (m : State) where
   abbrev own : List (Row Bool)
   own = refusalsOf (instrAt k m) m
 
-  below : (n : ℕ) → n < 6 → without n own ≡ true
-  below n h = numbered-without n 6 lastOfStep own h (rows-numbered (instrAt k m) m)
+  not-own : (n : ℕ) → isOwn n ≡ false → without n own ≡ true
+  not-own n h = numbered-without n isOwn own h (rows-numbered (instrAt k m) m)
 
   abbrev t1 : Bool
   t1 = not (runsOkOf (fixedOf m) k (m .vector) (m .bytes))
@@ -111,19 +120,19 @@ module _ (k : List ℕ) (m : State) where
   before n = take n (stepTests k m)
 
   pub row1 : Iff (stepOf k m .code ≡ 1) ((silent (before 0) ≡ true) × (t1 ≡ true))
-  row1 = step-row k m (before 0) (2 ⇒ t2 ∷ 3 ⇒ m .warp .ended ∷ 4 ⇒ m .warp .waiting ∷ 5 ⇒ t5 ∷ own) 1 t1 refl (λ z. omega arith) refl (below 1 (lit≤ tt))
+  row1 = step-row k m (before 0) (2 ⇒ t2 ∷ 3 ⇒ m .warp .ended ∷ 4 ⇒ m .warp .waiting ∷ 5 ⇒ t5 ∷ own) 1 t1 refl (λ z. omega arith) refl (not-own 1 refl)
 
   pub row2 : Iff (stepOf k m .code ≡ 2) ((silent (before 1) ≡ true) × (t2 ≡ true))
-  row2 = step-row k m (before 1) (3 ⇒ m .warp .ended ∷ 4 ⇒ m .warp .waiting ∷ 5 ⇒ t5 ∷ own) 2 t2 refl (λ z. omega arith) refl (below 2 (lit≤ tt))
+  row2 = step-row k m (before 1) (3 ⇒ m .warp .ended ∷ 4 ⇒ m .warp .waiting ∷ 5 ⇒ t5 ∷ own) 2 t2 refl (λ z. omega arith) refl (not-own 2 refl)
 
   pub row3 : Iff (stepOf k m .code ≡ 3) ((silent (before 2) ≡ true) × (m .warp .ended ≡ true))
-  row3 = step-row k m (before 2) (4 ⇒ m .warp .waiting ∷ 5 ⇒ t5 ∷ own) 3 (m .warp .ended) refl (λ z. omega arith) refl (below 3 (lit≤ tt))
+  row3 = step-row k m (before 2) (4 ⇒ m .warp .waiting ∷ 5 ⇒ t5 ∷ own) 3 (m .warp .ended) refl (λ z. omega arith) refl (not-own 3 refl)
 
   pub row4 : Iff (stepOf k m .code ≡ 4) ((silent (before 3) ≡ true) × (m .warp .waiting ≡ true))
-  row4 = step-row k m (before 3) (5 ⇒ t5 ∷ own) 4 (m .warp .waiting) refl (λ z. omega arith) refl (below 4 (lit≤ tt))
+  row4 = step-row k m (before 3) (5 ⇒ t5 ∷ own) 4 (m .warp .waiting) refl (λ z. omega arith) refl (not-own 4 refl)
 
   pub row5 : Iff (stepOf k m .code ≡ 5) ((silent (before 4) ≡ true) × (t5 ≡ true))
-  row5 = step-row k m (before 4) own 5 t5 refl (λ z. omega arith) refl (below 5 (lit≤ tt))
+  row5 = step-row k m (before 4) own 5 t5 refl (λ z. omega arith) refl (not-own 5 refl)
 
   -- from 6 on: the instruction's own table says
   pub row-own : (n : ℕ) → 6 ≤ n → Iff (stepOf k m .code ≡ n) ((silent (stepTests k m) ≡ true) × (first own ≡ n))

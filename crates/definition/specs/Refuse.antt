@@ -9,10 +9,12 @@ use Rattle.word.specs.Word.{holdsOf}
 use Rattle.isa.specs.declared.CsrOp.{CsrOp}
 use Rattle.isa.specs.declared.Instr.{Instr}
 use Rattle.isa.specs.declared.Instr.the-variants as I
+use Rattle.isa.specs.declared.Space.{Space}
+use Rattle.isa.specs.declared.VReg.{VReg}
 use Rattle.lanes.specs.declared.Lane.{Lane}
 use Rattle.lanes.specs.Lanes.{fileWords, laneOf, uniformOf}
 use Rattle.memory.specs.Memory.{memory, memoryOkOf, sizeOf, widthOf, insideOf}
-use Rattle.memory.specs.LaneAccess.{allInside}
+use Rattle.memory.specs.LaneAccess.{allInside, allInWord}
 use Rattle.warp.specs.declared.Fixed.{Fixed}
 use Rattle.warp.specs.declared.Launch.{Launch}
 use Rattle.warp.specs.declared.Warp.{Warp}
@@ -49,7 +51,7 @@ onKernel k w = leb (w .fixed .codeBase) (w .pc) && ltb (placeOf w) (length k)
 abbrev pub fetchTests : List ℕ → Warp → List (Row Bool)
 fetchTests k w = 3 ⇒ w .ended ∷ 4 ⇒ w .waiting ∷ 5 ⇒ not (onKernel k w) ∷ []
 
--- ---- 6 to 11: the word's own, one line an instruction
+-- ---- 6 to 11 and 14: the word's own, one line an instruction
 
 -- CSR number outside 0x800 to 0x80C, or a write to one other than PRINT and RPC
 abbrev pub noCsr : CsrOp → ℕ → ℕ → Bool
@@ -65,6 +67,14 @@ outside n a m = not (insideOf (memoryOf m) n a)
 
 abbrev pub someOutside : ℕ → (Lane → ℕ) → State → Bool
 someOutside n at m = not (allInside (fixedOf m .numt) (active m) (memoryOf m) n at)
+
+-- some active lane's private access of n bytes, by register a's lane and the offset off, crosses a word boundary of the lane
+abbrev pub someCrosses : Space → ℕ → VReg → ℕ → State → Bool
+someCrosses s n a off m = not (allInWord (fixedOf m .numt) (active m) s n (laneOf (m .vector) a) off)
+
+-- an access by lanes, of n bytes each
+abbrev pub accessTests : Space → ℕ → VReg → ℕ → State → List (Row Bool)
+accessTests s n a off m = 14 ⇒ someCrosses s n a off m ∷ 9 ⇒ someOutside n (laneAt s a off m) m ∷ []
 
 -- the active lanes' words differ
 abbrev pub mixed : (Lane → ℕ) → State → Bool
@@ -98,8 +108,8 @@ refusalsOf I.Join m = []
 refusalsOf (I.SetRpc r a n) m = []
 refusalsOf I.EndPrg m = 11 ⇒ inSplit m ∷ []
 refusalsOf (I.Barrier n) m = 11 ⇒ inSplit m ∷ []
-refusalsOf (I.VLoad s k r a n) m = 9 ⇒ someOutside (sizeOf k) (laneAt s a n m) m ∷ []
-refusalsOf (I.VStore s k a b n) m = 9 ⇒ someOutside (widthOf k) (laneAt s a n m) m ∷ []
+refusalsOf (I.VLoad s k r a n) m = accessTests s (sizeOf k) a n m
+refusalsOf (I.VStore s k a b n) m = accessTests s (widthOf k) a n m
 
 -- ---- the table of each call
 
@@ -110,9 +120,9 @@ stepTests k m = stateTests k m ++ fetchTests k (m .warp)
 abbrev pub testsOf : List ℕ → State → List (Row Bool)
 testsOf k m = stepTests k m ++ refusalsOf (instrAt k m) m
 
--- the highest of its numbers
-abbrev pub lastOfStep : ℕ
-lastOfStep = 11
+-- its numbers
+abbrev pub stepNumbers : List ℕ
+stepNumbers = 1 ∷ 2 ∷ 3 ∷ 4 ∷ 5 ∷ 6 ∷ 7 ∷ 8 ∷ 9 ∷ 10 ∷ 11 ∷ 14 ∷ []
 
 -- a launch: 1 for a size, and 1 for a launch value out of range
 abbrev pub launchTests : List ℕ → Launch → List ℕ → List ℕ → List (Row Bool)

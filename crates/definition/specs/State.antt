@@ -20,7 +20,6 @@ use Rattle.memory.specs.declared.Private.{Private}
 use Rattle.warp.specs.declared.Fixed.{Fixed}
 use Rattle.warp.specs.declared.Warp.{Warp}
 use Rattle.warp.specs.Warp.{readX}
-use Rattle.warp.specs.Csr.{tidOf}
 
 -- the warp, the vector file and the bytes of the data memory
 pub record State : Type 0 where
@@ -73,7 +72,7 @@ scalarAt a n m = plainOf (xOf a m) n
 
 -- what the private rule takes from the launch
 abbrev pub privateIn : Fixed → Private
-privateIn f = record { numt = f .numt; numw = f .numw; tid = tidOf f; pds = f .pds }
+privateIn f = record { numt = f .numt; pds = f .pds }
 
 -- the address of lane l's access, plain or private
 abbrev pub laneAt : Space → VReg → ℕ → State → Lane → ℕ

@@ -17,7 +17,7 @@ use Rattle.definition.specs.State.{State, Outcome, outcome, instrAt}
 use Rattle.definition.specs.Refuse.{runsOkOf}
 use Rattle.definition.specs.Step.{stepOf}
 use Rattle.definition.specs.Calls.{ran, stepsOf, runOf}
-use Rattle.definition.proofs.Tests.{step-known}
+use Rattle.definition.proofs.Tests.{step-last}
 use Rattle.definition.proofs.Sound.{step-sound}
 use Rattle.definition.proofs.Sizes.{sizes-kept}
 use Rattle.definition.proofs.Target.{Within, targetOf, step-within}
@@ -82,7 +82,7 @@ module _ (k : List ℕ) (n : ℕ) (a b : Lists) (t : ℕ) (r : Going k n a b t) 
   pub drives-stop : (c ≡ 0 → ⊥) → Drives k n c t a b'
   drives-stop z =
       record {
-        known = omega (arith, step-known k (lentState b), code-is);
+        known = omega (arith, step-last k (lentState b), code-is);
         long = q .long;
         room = q .room;
         sound = keeps-sound;

@@ -6,6 +6,7 @@ use mathlib.Core.List.{List, [], _∷_}
 use native.Mathlib.Omega.{arith}
 use lib.Dec.{eqb}
 use lib.ListN.{length}
+use borrow.Author.Tests.{eqb-true, eqb-false, not-false}
 use Rattle.answer.specs.Rows.{_⇒_, first}
 use Rattle.isa.specs.declared.Instr.{Instr}
 use Rattle.isa.specs.declared.Instr.the-variants as I
@@ -20,19 +21,20 @@ use Rattle.lanes.specs.Mask.{bit}
 use Rattle.lanes.specs.Lanes.{lanesMax, laneOf, writeLanes}
 use Rattle.lanes.specs.Rows.{RowOf, at}
 use Rattle.memory.specs.declared.Private.{Private}
-use Rattle.memory.specs.Memory.{Memory, memory, sizeOf, widthOf, loadOf}
 use Rattle.memory.specs.Address.{laneAddress}
-use Rattle.memory.specs.LaneAccess.{allInside, storeLanes}
+use Rattle.memory.specs.Memory.{Memory, memory, sizeOf, widthOf, loadOf}
+use Rattle.memory.specs.LaneAccess.{allInside, allInWord, storeLanes}
 use Rattle.memory.proofs.Laws.{inside-only, load-only, store-only}
 use Rattle.layout.specs.Words.{movingCount, flatCount, maskIn, fixedIn, warpOf}
 use Rattle.running.specs.Goes.{nextIn}
-use Rattle.definition.specs.State.{privateIn}
+use Rattle.definition.specs.State.{state, privateIn}
+use Rattle.definition.proofs.Tests.{crosses-first, crosses-not}
 use Rattle.definition.specs.Refuse.{astray, refusalsOf}
 use Rattle.definition.specs.Exec.{effectOf}
 use Rattle.definition.specs.Step.{execOf}
 use Rattle.handlers.specs.Handles.{Lists, lists, lentState, Handles}
-use Rattle.lane_handlers.specs.Lanes.{LanesAt, LaneLoad, LaneStore, addressAt}
-use Rattle.handlers.proofs.Laws.{refused, file-written, data-stored, row-fails, row-passes}
+use Rattle.lane_handlers.specs.Lanes.{LanesAt, LaneLoad, LaneStore, addressAt, inWords, Tested}
+use Rattle.handlers.proofs.Laws.{refused, file-written, data-stored}
 
 -- VBRANCH's test, of the code's e and p
 pub split-test : (e e' p p' : ℕ) (t : Bool) → e ≡ e' → p ≡ p' → (not (eqb e 0) && not (eqb (p % 4) 0)) ≡ t → (not (eqb e' 0) && astray p') ≡ t
@@ -46,9 +48,30 @@ lanes-fit r e = (omega (arith, e, r .fixed .lanes .1), rw e (r .below))
 
 -- ---- accesses
 
--- the addresses of the lanes stand in a row o, which the code computes from n threads, the launch's p and the register b
-module _ (s : Space) (off mask w : ℕ) (g v d o : List ℕ) {n : ℕ} {p : Private} {b : VReg}
-    (en : n ≡ fixedIn g .numt) (ep : p ≡ privateIn (fixedIn g)) (eb : b ≡ vOf (fieldsOf w .rs1)) (r : RowOf n (laneAddress s p v b off) o) where
+-- the code's threads n, register b and launch values p are those of the word and the fixed words, so the callees' contracts speak of these
+module _ (s : Space) (off w : ℕ) (g v : List ℕ) {n : ℕ} {b : VReg} (en : n ≡ fixedIn g .numt) (eb : b ≡ vOf (fieldsOf w .rs1)) where
+  pub words-told : (mask size : ℕ) → allInWord n (bit mask) s size (laneOf v b) off ≡ inWords s size off mask w g v
+  words-told mask size = rw (en, eb)
+
+  pub row-told : {p : Private} (o : List ℕ) → p ≡ privateIn (fixedIn g) → RowOf n (laneAddress s p v b off) o → RowOf (fixedIn g .numt) (addressAt s off w g v) o
+  row-told o ep r = rw (en, ep, eb) at r
+
+-- the boundary test t of an access of z bytes
+module _ (s : Space) (size off mask w : ℕ) (g v d : List ℕ) {z : ℕ} {t : Bool} (ez : z ≡ size) (q : t ≡ not (inWords s z off mask w g v)) where
+  pub crossed : t ≡ true → Tested 14 s size off mask w g v d
+  unfolding warpOf
+  crossed e h x r eh = sym (crosses-first s size (vOf (fieldsOf w .rs1)) off (state (warpOf g h x r) v d) (rw (eh, ← ez) (sym q ∙ e)))
+
+  pub not-crossed : t ≡ false → inWords s size off mask w g v ≡ true
+  not-crossed e = rw (← ez) (not-false (inWords s z off mask w g v) (sym q ∙ e))
+
+-- what is written where the access is made
+made-so : (t : Bool) (c : ℕ) (new old u : List ℕ) → c ≡ first (9 ⇒ not t ∷ []) → u ≡ cond t new old → u ≡ cond (eqb c 0) new old
+made-so true c new old u k e = rw k e
+made-so false c new old u k e = rw k e
+
+-- no access crosses, and the addresses stand in a row o; the code has n threads
+module _ (s : Space) (off mask w : ℕ) (g v d o : List ℕ) (t : Bool) {n c : ℕ} (en : n ≡ fixedIn g .numt) (r : RowOf (fixedIn g .numt) (addressAt s off w g v) o) (m : c ≡ first (9 ⇒ not t ∷ [])) where
   abbrev Data : Memory
   Data = memory (fixedIn g .dataBase) d
 
@@ -56,48 +79,59 @@ module _ (s : Space) (off mask w : ℕ) (g v d o : List ℕ) {n : ℕ} {p : Priv
   At = addressAt s off w g v
 
   there : (l : Lane) → l .0 < n → bit mask l ≡ true → at o l ≡ At l
-  there l h i = rw (ep, eb) at (r .1 l h)
+  there l h i = r .1 l (rw en at h)
 
-  pub loaded-row : {t : Bool} {k : LoadOp} {rd : VReg} {v' : List ℕ} → k ≡ loadOpOf (fieldsOf w) → rd ≡ vOf (fieldsOf w .rd)
-      → (t ≡ allInside n (bit mask) Data (sizeOf k) (at o)) × (v' ≡ cond t (writeLanes n (bit mask) rd (λ l. loadOf k Data (at o l)) v) v) → LaneLoad t s off mask w g v d v'
-  loaded-row {t} {k} {rd} ek ed q =
+  nine : (size : ℕ) → inWords s size off mask w g v ≡ true → t ≡ allInside n (bit mask) Data size (at o) → Tested c s size off mask w g v d
+  unfolding warpOf
+  nine size e q h x y eh =
+      let a = vOf (fieldsOf w .rs1) in
+      let M = state (warpOf g h x y) v d in
+      let inside : t ≡ allInside (fixedIn g .numt) (bit (maskIn h)) Data size At = rw eh (rw en at (q ∙ inside-only n (bit mask) Data (at o) At there size)) in
+      m ∙ ap (λ (b : Bool). first (9 ⇒ not b ∷ [])) inside ∙ sym (crosses-not s size a off M (rw (eh, e)))
+
+  pub loaded-row : {k : LoadOp} {rd : VReg} {v' : List ℕ} → k ≡ loadOpOf (fieldsOf w) → rd ≡ vOf (fieldsOf w .rd) → inWords s (sizeOf k) off mask w g v ≡ true
+      → (t ≡ allInside n (bit mask) Data (sizeOf k) (at o)) × (v' ≡ cond t (writeLanes n (bit mask) rd (λ l. loadOf k Data (at o l)) v) v) → LaneLoad c s off mask w g v d v'
+  loaded-row {k} {rd} ek ed e q =
       record {
-        inside = rw (en, ek) at (q .0 ∙ inside-only n (bit mask) Data (at o) At there (sizeOf k));
-        file = rw (en, ek, ed) at (q .1 ∙ ap (λ (u : List ℕ). cond t u v) (load-only n (bit mask) Data (at o) At there k rd v));
+        code = rw ek at (nine (sizeOf k) e (q .0));
+        file = made-so t c _ v _ m (rw (en, ek, ed) at (q .1 ∙ ap (λ (u : List ℕ). cond t u v) (load-only n (bit mask) Data (at o) At there k rd v)));
       }
 
-  pub stored-row : {t : Bool} {k : StoreOp} {rs : VReg} {d' : List ℕ} → k ≡ laneStoreOpOf (fieldsOf w) → rs ≡ vOf (fieldsOf w .rs2)
-      → (t ≡ allInside n (bit mask) Data (widthOf k) (at o)) × (d' ≡ cond t (storeLanes n (bit mask) k (at o) (laneOf v rs) Data) d) → LaneStore t s off mask w g v d d'
-  stored-row {t} {k} {rs} ek es q =
+  pub stored-row : {k : StoreOp} {rs : VReg} {d' : List ℕ} → k ≡ laneStoreOpOf (fieldsOf w) → rs ≡ vOf (fieldsOf w .rs2) → inWords s (widthOf k) off mask w g v ≡ true
+      → (t ≡ allInside n (bit mask) Data (widthOf k) (at o)) × (d' ≡ cond t (storeLanes n (bit mask) k (at o) (laneOf v rs) Data) d) → LaneStore c s off mask w g v d d'
+  stored-row {k} {rs} ek es e q =
       record {
-        inside = rw (en, ek) at (q .0 ∙ inside-only n (bit mask) Data (at o) At there (widthOf k));
-        bytes = rw (en, ek, es) at (q .1 ∙ ap (λ (u : List ℕ). cond t u d) (store-only n (bit mask) Data (at o) At there k (laneOf v rs) (laneOf v rs) (λ l h i. refl)));
+        code = rw ek at (nine (widthOf k) e (q .0));
+        bytes = made-so t c _ d _ m (rw (en, ek, es) at (q .1 ∙ ap (λ (u : List ℕ). cond t u d) (store-only n (bit mask) Data (at o) At there k (laneOf v rs) (laneOf v rs) (λ l h i. refl))));
       }
 
--- an access by lanes is refused with 9 or done: t tells whether every one lies inside, and `put` takes the moving words and the list that it changes
+-- an access by lanes is refused or done: c is its answer, and `put` takes the moving words and the list that it changes
 module _ (i : Instr) (put : List ℕ → List ℕ → Lists) (c : ℕ) (h h' new old u : List ℕ) (z : length (put h old .moving) ≡ movingCount) (n : length (put h old .splits) ≡ flatCount) where
-  lane-arm : (t all : Bool) → first (refusalsOf i (lentState (put h old))) ≡ first (9 ⇒ not all ∷ []) → t ≡ all → (c ≡ cond t 0 9) × (h' ≡ cond t (nextIn h) h) → u ≡ cond t new old
+  lane-arm : (a : ℕ) → a ≡ first (refusalsOf i (lentState (put h old))) → (c ≡ a) × (h' ≡ cond (eqb a 0) (nextIn h) h) → u ≡ cond (eqb a 0) new old
       → (first (refusalsOf i (lentState (put h old))) ≡ 0 → Handles (execOf i) 0 (put h old) (put (nextIn h) new)) → Handles (execOf i) c (put h old) (put h' u)
-  lane-arm true all rows e o eu done = rw (o .0, o .1, eu) (done (rows ∙ row-passes 9 all (sym e)))
-  lane-arm false all rows e o eu done = rw (o .0, o .1, eu) (refused i 9 (put h old) (λ y. omega arith) z n (rows ∙ row-fails 9 all (sym e)))
+  lane-arm a rows o eu done = go (eqb a 0) refl (o .1) eu
+    where
+      go : (t : Bool) → eqb a 0 ≡ t → h' ≡ cond t (nextIn h) h → u ≡ cond t new old → Handles (execOf i) c (put h old) (put h' u)
+      go true e eh e' = rw (o .0, eqb-true a 0 e, eh, e') (done (sym rows ∙ eqb-true a 0 e))
+      go false e eh e' = rw (o .0, eh, e') (refused i a (put h old) (eqb-false a 0 e) z n (sym rows))
 
-module _ (t : Bool) (s : Space) (off w c : ℕ) (g h x r v d h' : List ℕ) (z : length h ≡ movingCount) (n : length r ≡ flatCount)
-    (o : (c ≡ cond t 0 9) × (h' ≡ cond t (nextIn h) h)) where
+module _ (a : ℕ) (s : Space) (off w c : ℕ) (g h x r v d h' : List ℕ) (z : length h ≡ movingCount) (n : length r ≡ flatCount)
+    (o : (c ≡ a) × (h' ≡ cond (eqb a 0) (nextIn h) h)) where
   abbrev F : Fields
   F = fieldsOf w
 
-  pub lane-load-arm : (v' : List ℕ) → LaneLoad t s off (maskIn h) w g v d v'
+  pub lane-load-arm : (v' : List ℕ) → LaneLoad a s off (maskIn h) w g v d v'
       → Handles (execOf (I.VLoad s (loadOpOf F) (vOf (F .rd)) (vOf (F .rs1)) off)) c (lists g h x r v d) (lists g h' x r v' d)
   unfolding warpOf effectOf refusalsOf
   lane-load-arm v' q =
       let i = I.VLoad s (loadOpOf F) (vOf (F .rd)) (vOf (F .rs1)) off in
-      lane-arm i (λ h v. lists g h x r v d) c h h' _ v v' z n t _ refl (q .inside) o (q .file)
+      lane-arm i (λ h v. lists g h x r v d) c h h' _ v v' z n a (q .code h x r refl) o (q .file)
       (λ e. file-written i g h x r v d (nextIn h) z n refl e (bit (maskIn h)) (vOf (F .rd)) _ _ refl refl)
 
-  pub lane-store-arm : (d' : List ℕ) → LaneStore t s off (maskIn h) w g v d d'
+  pub lane-store-arm : (d' : List ℕ) → LaneStore a s off (maskIn h) w g v d d'
       → Handles (execOf (I.VStore s (laneStoreOpOf F) (vOf (F .rs1)) (vOf (F .rs2)) off)) c (lists g h x r v d) (lists g h' x r v d')
   unfolding warpOf effectOf refusalsOf
   lane-store-arm d' q =
       let i = I.VStore s (laneStoreOpOf F) (vOf (F .rs1)) (vOf (F .rs2)) off in
-      lane-arm i (λ h d. lists g h x r v d) c h h' _ d d' z n t _ refl (q .inside) o (q .bytes)
+      lane-arm i (λ h d. lists g h x r v d) c h h' _ d d' z n a (q .code h x r refl) o (q .bytes)
       (λ e. data-stored i g h x r v d (nextIn h) z n refl e _ refl)

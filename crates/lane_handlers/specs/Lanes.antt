@@ -3,7 +3,9 @@ use Prim.Native.Nat.{ℕ, _^_, _<_}
 use mathlib.Core.Path.{_≡_}
 use mathlib.Core.Bool.{Bool, cond}
 use mathlib.Core.List.{List}
+use lib.Dec.{eqb}
 use lib.ListN.{length}
+use Rattle.answer.specs.Rows.{first}
 use Rattle.isa.specs.declared.Space.{Space}
 use Rattle.isa.specs.Fields.{fieldsOf, v as vOf}
 use Rattle.isa.specs.Kinds.{loadOpOf, laneStoreOpOf}
@@ -12,10 +14,11 @@ use Rattle.lanes.specs.Mask.{bit}
 use Rattle.lanes.specs.Lanes.{fileWords, laneOf, writeLanes}
 use Rattle.memory.specs.Memory.{memory, sizeOf, widthOf, loadOf}
 use Rattle.memory.specs.Address.{laneAddress}
-use Rattle.memory.specs.LaneAccess.{allInside, storeLanes}
+use Rattle.memory.specs.LaneAccess.{allInWord, storeLanes}
 use Rattle.warp.specs.Facts.{FixedOk}
-use Rattle.layout.specs.Words.{movingCount, maskIn, fixedIn}
-use Rattle.definition.specs.State.{privateIn}
+use Rattle.layout.specs.Words.{movingCount, maskIn, fixedIn, warpOf}
+use Rattle.definition.specs.State.{state, privateIn}
+use Rattle.definition.specs.Refuse.{accessTests}
 
 -- ---- what a handler of lanes asks
 
@@ -29,16 +32,24 @@ pub record Lanes (g h v : List ℕ) : Type 0 where
   pub long : length h ≡ movingCount
   pub at : LanesAt (maskIn h) g v
 
--- ---- lane accesses: whether every one lies inside, and what is written then
+-- ---- lane accesses: what refuses them, and what is written where nothing does
 
 -- the address of lane l's access by the word w
 abbrev pub addressAt : Space → ℕ → ℕ → List ℕ → List ℕ → Lane → ℕ
 addressAt s off w g v = laneAddress s (privateIn (fixedIn g)) v (vOf (fieldsOf w .rs1)) off
 
-pub record LaneLoad (t : Bool) (s : Space) (off mask w : ℕ) (g v d v' : List ℕ) : Type 0 where
-  pub inside : t ≡ allInside (fixedIn g .numt) (bit mask) (memory (fixedIn g .dataBase) d) (sizeOf (loadOpOf (fieldsOf w))) (addressAt s off w g v)
-  pub file : v' ≡ cond t (writeLanes (fixedIn g .numt) (bit mask) (vOf (fieldsOf w .rd)) (λ l. loadOf (loadOpOf (fieldsOf w)) (memory (fixedIn g .dataBase) d) (addressAt s off w g v l)) v) v
+-- no active lane's access of n bytes crosses a word boundary
+abbrev pub inWords : Space → ℕ → ℕ → ℕ → ℕ → List ℕ → List ℕ → Bool
+inWords s n off mask w g v = allInWord (fixedIn g .numt) (bit mask) s n (laneOf v (vOf (fieldsOf w .rs1))) off
 
-pub record LaneStore (t : Bool) (s : Space) (off mask w : ℕ) (g v d d' : List ℕ) : Type 0 where
-  pub inside : t ≡ allInside (fixedIn g .numt) (bit mask) (memory (fixedIn g .dataBase) d) (widthOf (laneStoreOpOf (fieldsOf w))) (addressAt s off w g v)
-  pub bytes : d' ≡ cond t (storeLanes (fixedIn g .numt) (bit mask) (laneStoreOpOf (fieldsOf w)) (addressAt s off w g v) (laneOf v (vOf (fieldsOf w .rs2))) (memory (fixedIn g .dataBase) d)) d
+-- c is the number of the definition's tests of an access of n bytes, whatever the warp is beside its fixed values and its mask
+abbrev pub Tested : ℕ → Space → ℕ → ℕ → ℕ → ℕ → List ℕ → List ℕ → List ℕ → Type 0
+Tested c s n off mask w g v d = (h x r : List ℕ) → maskIn h ≡ mask → c ≡ first (accessTests s n (vOf (fieldsOf w .rs1)) off (state (warpOf g h x r) v d))
+
+pub record LaneLoad (c : ℕ) (s : Space) (off mask w : ℕ) (g v d v' : List ℕ) : Type 0 where
+  pub code : Tested c s (sizeOf (loadOpOf (fieldsOf w))) off mask w g v d
+  pub file : v' ≡ cond (eqb c 0) (writeLanes (fixedIn g .numt) (bit mask) (vOf (fieldsOf w .rd)) (λ l. loadOf (loadOpOf (fieldsOf w)) (memory (fixedIn g .dataBase) d) (addressAt s off w g v l)) v) v
+
+pub record LaneStore (c : ℕ) (s : Space) (off mask w : ℕ) (g v d d' : List ℕ) : Type 0 where
+  pub code : Tested c s (widthOf (laneStoreOpOf (fieldsOf w))) off mask w g v d
+  pub bytes : d' ≡ cond (eqb c 0) (storeLanes (fixedIn g .numt) (bit mask) (laneStoreOpOf (fieldsOf w)) (addressAt s off w g v) (laneOf v (vOf (fieldsOf w .rs2))) (memory (fixedIn g .dataBase) d)) d

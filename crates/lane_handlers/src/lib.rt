@@ -7,6 +7,7 @@ use isa::Instr;
 use isa::Space;
 use isa::fields;
 use isa::kinds;
+use lanes::LANES;
 use lanes::Operand;
 use layout::DATABASE;
 use layout::FIXED;
@@ -14,26 +15,26 @@ use layout::FLAT;
 use layout::MASK;
 use layout::MOVING;
 use layout::NUMT;
-use layout::NUMW;
 use layout::PDS;
 use layout::SCALARS;
-use layout::WID;
 use memory::Private;
 ghost use mathlib.Core.Path.{_≡_};
-ghost use mathlib.Core.Bool.{cond};
-ghost use mathlib.Core.List.{List};
+ghost use mathlib.Core.Bool.{not, cond};
+ghost use mathlib.Core.List.{List, [], _∷_};
 ghost use Prim.Native.Nat.{ℕ, _+_, _%_, _<_, _≤_};
 ghost use lib.Count.{ones};
+ghost use lib.Dec.{eqb};
 ghost use lib.ListN.{length};
+ghost use Rattle.answer.specs.Rows.{_⇒_, first};
 ghost use Rattle.word.specs.Word.{extendOf};
 ghost use Rattle.isa.specs.Fields.{fieldsOf, x as xOf, v as vOf, immB};
 ghost use Rattle.isa.specs.Number.{opAt};
 ghost use Rattle.isa.specs.Kinds.{condOf, laneOpWord, opLimit};
 ghost use Rattle.isa.specs.Kinds.{sourceIn};
-ghost use Rattle.lanes.specs.Rows.{OperandOk};
+ghost use Rattle.lanes.specs.Rows.{OperandOk, RowOf};
 ghost use Rattle.memory.specs.Memory.{memory, MemoryOk};
 ghost use Rattle.memory.specs.Address.{offsetLimit};
-ghost use Rattle.lanes.specs.Lanes.{lanesMax};
+ghost use Rattle.lanes.specs.Lanes.{lanesMax, fileWords};
 ghost use Rattle.warp.specs.Facts.{FixedOk};
 ghost use Rattle.layout.specs.Words.{flatCount, maskIn, depthIn, fixedIn, warpOf};
 ghost use Rattle.running.specs.Goes.{nextIn};
@@ -41,7 +42,7 @@ ghost use Rattle.definition.specs.State.{state, privateIn};
 ghost use Rattle.definition.specs.Exec.{sourceOf};
 ghost use Rattle.definition.specs.Step.{execOf};
 ghost use Rattle.handlers.specs.Handles.{lists, Handles};
-ghost use Rattle.lane_handlers.specs.Lanes.{LanesAt, Lanes, LaneLoad, LaneStore};
+ghost use Rattle.lane_handlers.specs.Lanes.{LanesAt, Lanes, addressAt, inWords, LaneLoad, LaneStore};
 
 // ---- what a handler reads
 
@@ -60,13 +61,10 @@ fn operand(x: &[u32; SCALARS], w: u32) -> Operand
 
 // What the private rule takes from the launch.
 fn private(g: &[u32; FIXED]) -> Private
-    requires { ⌜ FixedOk (fixedIn (now g)) ⌝ }
     ensures { λ p. ⌜ p ≡ privateIn (fixedIn (now (g .entry))) ⌝ }
 {
     Private {
         numt: g[NUMT],
-        numw: g[NUMW],
-        tid: g[WID] * g[NUMT],
         pds: g[PDS],
     }
 }
@@ -187,8 +185,42 @@ pub fn vbranch(
 }
 
 // ---- lane accesses, plain or private
-// The compiler leaves these two as calls; lent the moving words h, they would keep them in memory for the whole loop (docs/SPEED.md).
 
+// Some active lane's private access of `size` bytes crosses a word boundary.
+fn some_crosses(
+    space: Space,
+    off: u16,
+    mask: u32,
+    g: &[u32; FIXED],
+    v: &[u32],
+    w: u32,
+    size: usize,
+) -> bool
+    requires { ⌜ LanesAt mask (now g) (now v) × (off < offsetLimit space) × (size ≤ 4) ⌝ }
+    ensures { λ t. ⌜ t ≡ not (inWords space size off mask w (now (g .entry)) (now (v .entry))) ⌝ }
+{
+    !lane_memory::all_in_word(space, v, fields::vs1(w), off, size, mask, threads(g))
+}
+
+// Where the lanes' accesses go.
+fn lane_addresses(space: Space, off: u16, g: &[u32; FIXED], v: &[u32], w: u32) -> [u32; LANES]
+    requires { ⌜ (length (now v) ≡ fileWords) × FixedOk (fixedIn (now g)) × (off < offsetLimit space) ⌝ }
+    ensures { λ o. ⌜ RowOf (fixedIn (now (g .entry)) .numt) (addressAt space off w (now (g .entry)) (now (v .entry))) o ⌝ }
+{
+    lane_memory::addresses(space, private(g), v, fields::vs1(w), off, threads(g))
+}
+
+// 0 where every active lane's access lies inside, else 9.
+fn inside_number(inside: bool) -> u32
+    ensures { λ c. ⌜ c ≡ first (9 ⇒ not inside ∷ []) ⌝ }
+{
+    if inside {
+        return answer::DONE;
+    }
+    answer::OUTSIDE
+}
+
+// The compiler leaves vload and vstore as calls; lent the moving words h, they would keep them in memory for the whole loop (docs/SPEED.md).
 pub fn vload(
     space: Space,
     off: u16,
@@ -197,22 +229,17 @@ pub fn vload(
     v: &mut [u32],
     d: &[u8],
     w: u32,
-) -> bool
+) -> u32
     requires { ⌜ LanesAt mask (now g) (now v) × MemoryOk (memory (fixedIn (now g) .dataBase) (now d)) × (off < offsetLimit space) ⌝ }
-    ensures { λ t. ⌜ LaneLoad t space off mask w (now (g .entry)) (now (v .entry)) (now (d .entry)) (now (v .exit)) ⌝ }
+    ensures { λ c. ⌜ LaneLoad c space off mask w (now (g .entry)) (now (v .entry)) (now (d .entry)) (now (v .exit)) ⌝ }
 {
+    let k = fields::load_op(w);
+    if some_crosses(space, off, mask, g, v, w, memory::size(k)) {
+        return answer::CROSSING;
+    }
+    let o = lane_addresses(space, off, g, v, w);
     let n = threads(g);
-    let o = lane_memory::addresses(space, private(g), v, fields::vs1(w), off, n);
-    lane_memory::load_lanes(
-        v,
-        mask,
-        n,
-        fields::load_op(w),
-        d,
-        g[DATABASE],
-        &o,
-        fields::vd(w),
-    )
+    inside_number(lane_memory::load_lanes(v, mask, n, k, d, g[DATABASE], &o, fields::vd(w)))
 }
 
 pub fn vstore(
@@ -223,31 +250,25 @@ pub fn vstore(
     v: &[u32],
     d: &mut [u8],
     w: u32,
-) -> bool
+) -> u32
     requires { ⌜ LanesAt mask (now g) (now v) × MemoryOk (memory (fixedIn (now g) .dataBase) (now d)) × (off < offsetLimit space) ⌝ }
-    ensures { λ t. ⌜ LaneStore t space off mask w (now (g .entry)) (now (v .entry)) (now (d .entry)) (now (d .exit)) ⌝ }
+    ensures { λ c. ⌜ LaneStore c space off mask w (now (g .entry)) (now (v .entry)) (now (d .entry)) (now (d .exit)) ⌝ }
 {
+    let k = fields::lane_store_op(w);
+    if some_crosses(space, off, mask, g, v, w, memory::width(k)) {
+        return answer::CROSSING;
+    }
+    let o = lane_addresses(space, off, g, v, w);
     let n = threads(g);
-    let o = lane_memory::addresses(space, private(g), v, fields::vs1(w), off, n);
-    lane_memory::store_lanes(
-        v,
-        mask,
-        n,
-        fields::lane_store_op(w),
-        d,
-        g[DATABASE],
-        &o,
-        fields::vs2(w),
-    )
+    inside_number(lane_memory::store_lanes(v, mask, n, k, d, g[DATABASE], &o, fields::vs2(w)))
 }
 
-// The PC goes to PC + 4 where every access lay inside.
-pub fn on_if(inside: bool, h: &mut [u32; MOVING]) -> u32
-    ensures { λ c. ⌜ (c ≡ cond inside 0 9) × (now (h .exit) ≡ cond inside (nextIn (now (h .entry))) (now (h .entry))) ⌝ }
+// The PC goes to PC + 4 where the access was made.
+pub fn on_if(code: u32, h: &mut [u32; MOVING]) -> u32
+    ensures { λ c. ⌜ (c ≡ code) × (now (h .exit) ≡ cond (eqb code 0) (nextIn (now (h .entry))) (now (h .entry))) ⌝ }
 {
-    if inside {
+    if code == answer::DONE {
         running::next(h);
-        return answer::DONE;
     }
-    answer::OUTSIDE
+    code
 }

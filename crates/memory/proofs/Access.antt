@@ -11,7 +11,7 @@ use borrow.Author.Tests.{lt-ltb, le-ltb, leb-true, leb-false}
 use Rattle.word.specs.Word.{subOf}
 use Rattle.lanes.specs.declared.Lane.{Lane}
 use Rattle.lanes.specs.Mask.{bit}
-use Rattle.lanes.specs.Lanes.{maskOf}
+use Rattle.lanes.specs.Lanes.{maskOf, allLanes, okIf}
 use Rattle.lanes.proofs.Laws.{all-at, all-same, ok-at, ok-not, both-left, both-right}
 use Rattle.lanes.proofs.MaskLaws.{and-bits, mask-zero}
 use Rattle.memory.specs.Memory.{Memory, memory, endOf, MemoryOk, insideOf, indexIn, dataLimit, memoryOkOf}
@@ -52,10 +52,10 @@ inside-length b d e w a h = ap (λ (n : ℕ). leb b a && leb (a + w) (b + n)) h
 pub all-inside-at : (n : ℕ) (on : Lane → Bool) (m : Memory) (w : ℕ) (at : Lane → ℕ) → true ≡ allInside n on m w at → (l : Lane) → l .0 < n → on l ≡ true → insideOf m w (at l) ≡ true
 all-inside-at n on m w at all l h t = ok-at (on l) (insideOf m w (at l)) (all-at (laneInside on m w at) n l all h) t
 
--- the test pass: no active lane is among those outside
-pub none-outside : (n mask : ℕ) (m : Memory) (w : ℕ) (at : Lane → ℕ) (out : ℕ) → mask < 2 ^ n → out ≡ maskOf n (λ l. not (insideOf m w (at l))) → eqb (bitAnd out mask) 0 ≡ allInside n (bit mask) m w at
-none-outside n mask m w at out h e =
+-- a test pass: no active lane is among those whose access fails the test p
+pub none-fails : (p : Lane → Bool) (n mask out : ℕ) → mask < 2 ^ n → out ≡ maskOf n (λ l. not (p l)) → eqb (bitAnd out mask) 0 ≡ allLanes n (λ l. okIf (bit mask l) (p l))
+none-fails p n mask out h e =
     ap (λ (x : ℕ). eqb (bitAnd x mask) 0) e
-    ∙ ap (λ (x : ℕ). eqb x 0) (and-bits (λ l. not (insideOf m w (at l))) n mask h)
-    ∙ mask-zero (λ l. bit mask l && not (insideOf m w (at l))) n
-    ∙ all-same (λ l. not (bit mask l && not (insideOf m w (at l)))) (laneInside (bit mask) m w at) n (λ l k. ok-not (bit mask l) (insideOf m w (at l)) (insideOf m w (at l)) refl)
+    ∙ ap (λ (x : ℕ). eqb x 0) (and-bits (λ l. not (p l)) n mask h)
+    ∙ mask-zero (λ l. bit mask l && not (p l)) n
+    ∙ all-same (λ l. not (bit mask l && not (p l))) (λ l. okIf (bit mask l) (p l)) n (λ l k. ok-not (bit mask l) (p l) (p l) refl)

@@ -12,8 +12,9 @@ use Rattle.lanes.specs.Mask.{lane, bitAt, bit}
 use Rattle.lanes.specs.Lanes.{eachLane, allLanes, writeLanes}
 use Rattle.memory.specs.Bytes.{leBytes}
 use Rattle.memory.specs.Memory.{Memory, memory, insideOf, loadOf}
-use Rattle.memory.specs.Address.{addressOf}
-use Rattle.memory.specs.LaneAccess.{allInside, storeLanes}
+use Rattle.memory.specs.declared.Private.{Private}
+use Rattle.memory.specs.Address.{addressOf, inWord}
+use Rattle.memory.specs.LaneAccess.{allInside, allInWord, storeLanes}
 
 -- sixteen bytes at 0x1000
 base : ℕ
@@ -87,13 +88,59 @@ load-past : insideOf lent 4 (base + 13) ≡ false
 unfolding base bytes
 load-past = refl
 
+-- four lanes, and their private memories at 0x1000
+abbrev four : Private
+four = record { numt = 4; pds = 0x1000 }
+
 -- addresses wrap: 4 + (-8)
-plain-wraps : addressOf space.Plain (record { numt = 4; numw = 1; tid = 0; pds = 4096 }) 4 4088 (lane 1) ≡ 4294967292
+plain-wraps : addressOf space.Plain four 4 4088 (lane 1) ≡ 4294967292
 plain-wraps = refl
 
--- private: 4 lanes, one warp, PDS 0x1000, vs1 + offset = 8, lane 1: 0x1021; and warp 1 of 2 with offset -1: 7·8 + (4 + 1) + 0x1000
-private-one : addressOf space.Private (record { numt = 4; numw = 1; tid = 0; pds = 4096 }) 5 3 (lane 1) ≡ 4129
-private-one = refl
+-- vs1 + offset = 8, lane 1: 0x1024; its neighbours' words stand before and behind it, and its own next word 16 bytes on
+private-word : addressOf space.Private four 5 3 (lane 1) ≡ 0x1024
+private-word = refl
 
-private-two : addressOf space.Private (record { numt = 4; numw = 2; tid = 4; pds = 4096 }) 8 2047 (lane 1) ≡ 4157
-private-two = refl
+private-before : addressOf space.Private four 5 3 (lane 0) ≡ 0x1020
+private-before = refl
+
+private-behind : addressOf space.Private four 5 3 (lane 2) ≡ 0x1028
+private-behind = refl
+
+private-next : addressOf space.Private four 9 3 (lane 1) ≡ 0x1034
+private-next = refl
+
+-- vs1 + offset = 8 - 1: the last byte of the word before; and 0 - 1, which wraps: 4·(2^32 - 4) + 3 + 4 + 0x1000
+private-byte : addressOf space.Private four 8 2047 (lane 1) ≡ 0x1017
+private-byte = refl
+
+private-wraps : addressOf space.Private four 0 2047 (lane 1) ≡ 0xFF7
+private-wraps = refl
+
+-- the edges of 14: a word fits at 0 of its four bytes and not at 1, a half at 2 and not at 3, a byte at 3
+word-at-0 : inWord space.Private 4 5 3 ≡ true
+word-at-0 = refl
+
+word-at-1 : inWord space.Private 4 6 3 ≡ false
+word-at-1 = refl
+
+half-at-2 : inWord space.Private 2 7 3 ≡ true
+half-at-2 = refl
+
+half-at-3 : inWord space.Private 2 8 3 ≡ false
+half-at-3 = refl
+
+byte-at-3 : inWord space.Private 1 8 3 ≡ true
+byte-at-3 = refl
+
+-- a plain access has no such edge
+plain-at-1 : inWord space.Plain 4 6 3 ≡ true
+plain-at-1 = refl
+
+-- 14 asks active lanes only, and every one of them: lane 3's half would cross
+three-in-word : allInWord 4 (bit 7) space.Private 2 (row (4 ∷ 6 ∷ 8 ∷ 11 ∷ [])) 0 ≡ true
+unfolding base allLanes bitAt
+three-in-word = refl
+
+fourth-crosses : allInWord 4 (bit 15) space.Private 2 (row (4 ∷ 6 ∷ 8 ∷ 11 ∷ [])) 0 ≡ false
+unfolding base allLanes bitAt
+fourth-crosses = refl

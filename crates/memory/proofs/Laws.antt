@@ -10,17 +10,18 @@ use lib.ListN.{length, getD, set, length-set}
 use lib.Seq.{sets, length-sets, getD-set-same, getD-set-other}
 use Rattle.isa.specs.declared.LoadOp.{LoadOp}
 use Rattle.isa.specs.declared.Space.{Space}
+use Rattle.isa.specs.declared.Space.the-variants as space
 use Rattle.isa.specs.declared.StoreOp.{StoreOp}
 use Rattle.isa.specs.declared.VReg.{VReg}
 use Rattle.lanes.specs.declared.Lane.{Lane}
 use Rattle.lanes.specs.Lanes.{laneOf, writeLanes}
-use Rattle.lanes.proofs.Laws.{newest, each-grows, each-keeps, each-same, write-same, all-same, ok-same}
+use Rattle.lanes.proofs.Laws.{newest, each-grows, each-keeps, each-same, write-same, all-hold, all-same, ok-when, ok-same}
 use Rattle.memory.specs.declared.Loaded.the-variants.{Found, Outside}
 use Rattle.memory.specs.declared.Private.{Private}
 use Rattle.memory.specs.Bytes.{leBytes}
 use Rattle.memory.specs.Memory.{Memory, memory, widthOf, insideOf, indexIn, loadOf, storeOf}
-use Rattle.memory.specs.Address.{addressOf, laneAddress}
-use Rattle.memory.specs.LaneAccess.{laneInside, allInside, storeLanes}
+use Rattle.memory.specs.Address.{addressOf, laneAddress, inWord}
+use Rattle.memory.specs.LaneAccess.{laneInside, allInside, allInWord, storeLanes}
 use Rattle.memory.proofs.Access.{inside-true, all-inside-at}
 
 -- what a scalar load finds
@@ -35,6 +36,14 @@ outside-is false v e = refl
 -- a lane's address depends on that lane's word alone
 pub address-only : (s : Space) (p : Private) (v w : List ℕ) (r : VReg) (off : ℕ) (l : Lane) → laneOf v r l ≡ laneOf w r l → laneAddress s p v r off l ≡ laneAddress s p w r off l
 address-only s p v w r off l same = ap (λ (x : ℕ). addressOf s p x off l) same
+
+-- whether an access by lanes crosses a word boundary depends on active lanes' words only, and a plain one crosses none
+module _ (n : ℕ) (on : Lane → Bool) (w off : ℕ) where
+  pub word-only : (s : Space) (xs xs′ : Lane → ℕ) → ((l : Lane) → l .0 < n → on l ≡ true → xs l ≡ xs′ l) → allInWord n on s w xs off ≡ allInWord n on s w xs′ off
+  word-only s xs xs′ same = all-same _ _ n (λ l h. ok-same (on l) (inWord s w (xs l) off) (inWord s w (xs′ l) off) (λ t. ap (λ (x : ℕ). inWord s w x off) (same l h t)))
+
+  pub plain-in-word : (xs : Lane → ℕ) → true ≡ allInWord n on space.Plain w xs off
+  plain-in-word xs = all-hold _ n (λ l h. ok-when (on l) true (λ t. refl))
 
 -- ---- what active lanes' addresses decide
 module _ (n : ℕ) (on : Lane → Bool) (m : Memory) (at at′ : Lane → ℕ) (same : (l : Lane) → l .0 < n → on l ≡ true → at l ≡ at′ l) where

@@ -1,4 +1,3 @@
 pub mod Access
 pub mod Laws
-pub mod Wrap
 pub mod Cases

@@ -21,8 +21,6 @@ pub enum Loaded {
 // What a private address takes from the launch.
 pub struct Private {
     pub numt: u32,
-    pub numw: u32,
-    pub tid: u32,
     pub pds: u32,
 }
 

@@ -6,4 +6,5 @@ pub mod Stores
 pub mod Twins
 pub mod Written
 pub mod Lanes
+pub mod Private
 pub mod Determined

@@ -1,18 +1,18 @@
 -- Demand 1: the answer's number, when and only when; and what a refusal leaves.
-use Prim.Native.Nat.{ℕ, zero, suc, _+_, _≤_}
+use Prim.Native.Nat.{ℕ, zero, suc, _+_}
 use mathlib.Core.Path.{_≡_, refl, sym}
 use mathlib.Core.Bool.{Bool, true, false, not, _&&_, true≢false}
 use mathlib.Core.List.{List, [], _∷_, append-nil}
 use native.Mathlib.Omega.{arith}
-use lib.Dec.{eqb, lit≤}
+use lib.Dec.{eqb}
 use lib.ListN.{take}
 use borrow.Author.Tests.{eq-eqb, ne-eqb, eqb-true, eqb-false}
-use Rattle.answer.specs.Rows.{Row, _⇒_, first, Iff}
-use Rattle.answer.proofs.Rows.{silent, without, first-silent, zero-silent, numbered-le}
+use Rattle.answer.specs.Rows.{Row, _⇒_, first, oneOf, Iff}
+use Rattle.answer.proofs.Rows.{silent, without, first-silent, zero-silent, numbered-first}
 use Rattle.warp.specs.WellFormed.{launchOkOf, wellFormedOf}
 use Rattle.warp.proofs.SplitLaws.{by-cond}
 use Rattle.definition.specs.State.{State}
-use Rattle.definition.specs.Refuse.{runsOkOf, stateTests, stepTests, lastOfStep}
+use Rattle.definition.specs.Refuse.{runsOkOf, stateTests, stepTests, stepNumbers}
 use Rattle.definition.specs.Step.{stepOf}
 use Rattle.definition.specs.Calls.{Ran, launchOf, stepsOf, runOf, releaseOf}
 use Rattle.definition.proofs.Tests as Tests
@@ -54,15 +54,16 @@ is-zero {A = A} n f g = go (eqb n 0) refl
     go true e = f (eqb-true n 0 e)
     go false e = g (eqb-false n 0 e)
 
-steps-answer : (k : List ℕ) (n t : ℕ) (m : State) → stepsOf k n t m .ends .code ≤ lastOfStep
-steps-answer k zero t m = rw (turn-end k t m) (lit≤ tt)
+steps-answer : (k : List ℕ) (n t : ℕ) (m : State) → oneOf (0 ∷ stepNumbers) (stepsOf k n t m .ends .code) ≡ true
+steps-answer k zero t m = rw (turn-end k t m)
 steps-answer k (suc n) t m =
     is-zero (stepOf k m .code) (λ z. rw (turn-on k n t m z) (steps-answer k n (t + 1) (stepOf k m .left))) (λ z. rw (turn-off k n t m z) (step-answers k m))
 
 pub run-answers : RunAnswers
 unfolding runOf
 run-answers k n m =
-    by-cond (λ (r : Ran). r .ends .code ≤ lastOfStep) (eqb (first (stateTests k m)) 0) _ _ (λ z. steps-answer k n 0 m) (λ z. numbered-le 1 lastOfStep (stateTests k m) refl)
+    by-cond (λ (r : Ran). oneOf (0 ∷ stepNumbers) (r .ends .code) ≡ true) (eqb (first (stateTests k m)) 0) _ _ (λ z. steps-answer k n 0 m)
+    (λ z. numbered-first (oneOf (0 ∷ stepNumbers)) (stateTests k m) refl refl)
 
 -- ---- a launch and a release, by what their two tests say
 

@@ -1,6 +1,6 @@
 -- An instruction at two vector files: what its tests and its effect look at, lane by lane.
 use Prim.Native.Nat.{ℕ, _+_, _<_}
-use mathlib.Core.Path.{_≡_, refl, ap, _∙_}
+use mathlib.Core.Path.{_≡_, refl, ap, ap₂, _∙_}
 use mathlib.Core.Bool.{Bool, true, not, _&&_}
 use mathlib.Core.List.{List, [], _∷_}
 use lib.Dec.{eqb}
@@ -19,13 +19,12 @@ use Rattle.lanes.specs.declared.Lane.{Lane}
 use Rattle.lanes.proofs.Laws.{lane-only, operand-only, uniform-only, value-only}
 use Rattle.lanes.proofs.MaskLaws.{wants-only}
 use Rattle.memory.specs.Memory.{sizeOf, widthOf}
-use Rattle.memory.specs.LaneAccess.{allInside}
-use Rattle.memory.proofs.Laws.{address-only, inside-only, store-only}
+use Rattle.memory.proofs.Laws.{address-only, word-only, inside-only, store-only}
 use Rattle.warp.specs.declared.Warp.{Warp}
 use Rattle.warp.specs.Warp.{next, writeX}
 use Rattle.warp.specs.Splits.{parted}
 use Rattle.definition.specs.State.{State, fixedOf, active, pcBy, memoryOf, laneAt, privateIn, elseOf}
-use Rattle.definition.specs.Refuse.{astray, refusalsOf}
+use Rattle.definition.specs.Refuse.{astray, accessTests, refusalsOf}
 use Rattle.definition.specs.Exec.{Effect, goes, writes, stores, effectOf, immediateOf, sourceOf, loaded}
 use Rattle.promises.specs.Lanes.{SameLane, withFile}
 use Rattle.promises.specs.Written.{Becomes, Gives, operation, move, scalar, number, load}
@@ -67,15 +66,10 @@ module _ (m : State) (u : List ℕ) where
   at-same : (e : Space) (a : VReg) (o : ℕ) (l : Lane) → SameLane l (m .vector) u → laneAt e a o m l ≡ laneAt e a o (withFile u m) l
   at-same e a o l s = address-only e (privateIn (fixedOf m)) (m .vector) u a o l (s a)
 
-  abbrev inside : Space → VReg → ℕ → ℕ → State → Bool
-  inside e a o w n = allInside (fixedOf m .numt) (active m) (memoryOf m) w (laneAt e a o n)
-
-  inside-same : (e : Space) (a : VReg) (o w : ℕ) → Same → inside e a o w m ≡ inside e a o w (withFile u m)
-  inside-same e a o w s =
-      inside-only (fixedOf m .numt) (active m) (memoryOf m) (laneAt e a o m) (laneAt e a o (withFile u m)) (λ l h t. at-same e a o l (s l h t)) w
-
-  abbrev nine : Bool → List (Row Bool)
-  nine t = 9 ⇒ not t ∷ []
+  rows-same : (e : Space) (a : VReg) (o w : ℕ) → Same → accessTests e w a o m ≡ accessTests e w a o (withFile u m)
+  rows-same e a o w s =
+      ap₂ (λ (c t : Bool). 14 ⇒ not c ∷ 9 ⇒ not t ∷ []) (word-only (fixedOf m .numt) (active m) w o e (laneOf (m .vector) a) (laneOf u a) (λ l h t. s l h t a))
+      (inside-only (fixedOf m .numt) (active m) (memoryOf m) (laneAt e a o m) (laneAt e a o (withFile u m)) (λ l h t. at-same e a o l (s l h t)) w)
 
   pub compared : (i : Instr) → Compared i (refusalsOf i m) (refusalsOf i (withFile u m)) (effectOf i m) (effectOf i (withFile u m))
   unfolding refusalsOf effectOf
@@ -115,10 +109,10 @@ module _ (m : State) (u : List ℕ) where
   compared (I.SetRpc r a n) = idle
   compared I.EndPrg = idle
   compared (I.Barrier n) = idle
-  compared (I.VLoad e k r a n) = record { rows = λ s. ap nine (inside-same e a n (sizeOf k) s); twin = gives (λ l. load e k r a n) (λ l s. ap (λ (x : ℕ). loaded k x m) (at-same e a n l s)) }
+  compared (I.VLoad e k r a n) = record { rows = λ s. rows-same e a n (sizeOf k) s; twin = gives (λ l. load e k r a n) (λ l s. ap (λ (x : ℕ). loaded k x m) (at-same e a n l s)) }
   compared (I.VStore e k a b n) =
       record {
-        rows = λ s. ap nine (inside-same e a n (widthOf k) s);
+        rows = λ s. rows-same e a n (widthOf k) s;
         twin = stores-both
             (λ h j. lanes-become m j e k a b n h)
             (λ s. store-only (fixedOf m .numt) (active m) (memoryOf m) (laneAt e a n m) (laneAt e a n (withFile u m)) (λ l h t. at-same e a n l (s l h t)) k

@@ -2,16 +2,16 @@
 use Prim.Native.Nat.{ℕ, _≤_}
 use mathlib.Core.Path.{_≡_}
 use mathlib.Core.Bool.{Bool, true, false, not, _&&_}
-use mathlib.Core.List.{List}
+use mathlib.Core.List.{List, _∷_}
 use lib.ListN.{take, replicate}
-use Rattle.answer.specs.Rows.{first, Iff}
+use Rattle.answer.specs.Rows.{first, oneOf, Iff}
 use Rattle.lanes.specs.Lanes.{fileWords}
 use Rattle.warp.specs.declared.Launch.{Launch}
 use Rattle.warp.specs.declared.Warp.{Warp}
 use Rattle.warp.specs.Warp.{zeroWarp, withStop, answered}
 use Rattle.warp.specs.WellFormed.{launchOkOf, wellFormedOf}
 use Rattle.definition.specs.State.{State, state, outcome, fixedOf, instrAt}
-use Rattle.definition.specs.Refuse.{runsOkOf, onKernel, refusalsOf, stepTests, testsOf, lastOfStep}
+use Rattle.definition.specs.Refuse.{runsOkOf, onKernel, refusalsOf, stepTests, testsOf, stepNumbers}
 use Rattle.definition.specs.Step.{stepOf}
 use Rattle.definition.specs.Calls.{launchedOf, launchOf, runOf, releaseOf}
 
@@ -43,12 +43,12 @@ pub record StepRows (k : List ℕ) (m : State) : Type 0 where
 abbrev pub StepRefusals : Type 0
 StepRefusals = (k : List ℕ) (m : State) → StepRows k m
 
--- A step and a run answer no number above those of a step's table.
+-- A step and a run answer 0 or a number of a step's table.
 abbrev pub StepAnswers : Type 0
-StepAnswers = (k : List ℕ) (m : State) → stepOf k m .code ≤ lastOfStep
+StepAnswers = (k : List ℕ) (m : State) → oneOf (0 ∷ stepNumbers) (stepOf k m .code) ≡ true
 
 abbrev pub RunAnswers : Type 0
-RunAnswers = (k : List ℕ) (n : ℕ) (m : State) → runOf k n m .ends .code ≤ lastOfStep
+RunAnswers = (k : List ℕ) (n : ℕ) (m : State) → oneOf (0 ∷ stepNumbers) (runOf k n m .ends .code) ≡ true
 
 -- A refused step leaves the warp, the vector file and the data memory as handed in.
 abbrev pub StepKeeps : Type 0

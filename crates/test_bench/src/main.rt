@@ -16,6 +16,16 @@ fn examples() {
         b"outside/kernel.bin",
         b"outside/data.bin",
     );
+    case(
+        b"private/card.bin",
+        b"private/kernel.bin",
+        b"private/data.bin",
+    );
+    case(
+        b"crossing/card.bin",
+        b"crossing/kernel.bin",
+        b"crossing/data.bin",
+    );
 }
 
 // Cards that are missing, or whose length, version or total is wrong.

@@ -77,11 +77,11 @@ pub released : Reached waits two (state (withStop false false (waiting .warp)) (
 unfolding computes
 released = goes (run-reaches waits two 1 (startOf waits two) (launched (replicate fileWords 0) [] refl) .reached) (releases refl)
 
--- ---- every row of a step's table is met: 1 by a vector file of no words, 2 by a warp of all zeros, 3 to 11 by runs of a word or three
+-- ---- every row of a step's table is met: 1 by a vector file of no words, 2 by a warp of all zeros, 3 to 11 and 14 by runs of a word or three
 
 pub rows-met : stepOf loop (state (after 0 .warp) [] []) .code ∷ stepOf loop (state zeroWarp (replicate fileWords 0) []) .code
     ∷ map (λ (k : List ℕ). runOf k 4 (startOf k two) .ends .code)
-    ((0x0000400b ∷ []) ∷ (0x0400400b ∷ []) ∷ (0x0000000f ∷ []) ∷ (0x00000000 ∷ []) ∷ (0x80001073 ∷ []) ∷ (0x0020006f ∷ []) ∷ (0x00002003 ∷ []) ∷ (0x5208a057 ∷ 0x420020d7 ∷ []) ∷ (0x5208a057 ∷ 0x0010145b ∷ 0x0000400b ∷ []) ∷ [])
-    ≡ 1 ∷ 2 ∷ 3 ∷ 4 ∷ 5 ∷ 6 ∷ 7 ∷ 8 ∷ 9 ∷ 10 ∷ 11 ∷ []
+    ((0x0000400b ∷ []) ∷ (0x0400400b ∷ []) ∷ (0x0000000f ∷ []) ∷ (0x00000000 ∷ []) ∷ (0x80001073 ∷ []) ∷ (0x0020006f ∷ []) ∷ (0x00002003 ∷ []) ∷ (0x5208a057 ∷ 0x420020d7 ∷ []) ∷ (0x5208a057 ∷ 0x0010145b ∷ 0x0000400b ∷ []) ∷ (0x001020ab ∷ []) ∷ [])
+    ≡ 1 ∷ 2 ∷ 3 ∷ 4 ∷ 5 ∷ 6 ∷ 7 ∷ 8 ∷ 9 ∷ 10 ∷ 11 ∷ 14 ∷ []
 unfolding computes
 rows-met = refl

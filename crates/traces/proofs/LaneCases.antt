@@ -1,6 +1,6 @@
 -- The promises on lanes at steps that are taken, by lanes 0 and 2 of 4.
 use Prim.Native.Nat.{ℕ, zero, suc, _+_, _*_, _≤_, _<_}
-use mathlib.Core.Path.{_≡_, refl, sym}
+use mathlib.Core.Path.{_≡_, refl, sym, ap}
 use mathlib.Core.Bool.{true, false, true≢false}
 use mathlib.Core.List.{List, [], _∷_}
 use native.Mathlib.Omega.{arith}
@@ -25,8 +25,11 @@ use Rattle.traces.specs.Bound.{launchOn}
 use Rattle.promises.specs.Lanes.{isActive, Has, SameLane, Agree, allBut, withFile, Alike, Touches}
 use Rattle.promises.specs.Lanes as L
 use Rattle.promises.specs.Written.{Becomes, LaneLeft}
+use Rattle.promises.specs.Private.{Reaches}
+use Rattle.promises.specs.Private as P
 use Rattle.promises.proofs.Stores.{active-below}
 use Rattle.promises.proofs.Written.{written, lane-words, one-value, move-shares}
+use Rattle.promises.proofs.Private.{steps-apart}
 use Rattle.promises.proofs.Lanes.{active-mask, kept, unwritten, all-but, unseen, unfelt, lane-alone}
 
 abbrev vreg : ℕ → VReg
@@ -123,6 +126,27 @@ accepted = refl
 byte-of : Becomes together 0 0 12 (instrAt storing together)
 unfolding computes together
 byte-of = written storing together accepted 0
+
+-- steps-apart: the private VSB v2, 0(v1), with all places 0. Lane 0's byte is at 0, which lane 2's access can't have: its byte is at 8
+abbrev privately : List ℕ
+privately = 0x0020f02b ∷ []
+
+unfoldable side-by-side : State
+side-by-side =
+    state (launchedOf (launchOn 4 0b0101)) (writeLanes 4 (λ l. true) (vreg 2) (λ l. 10 + l .0) (replicate fileWords 0)) (replicate 12 0)
+
+own-bytes : stepOf privately side-by-side .left .bytes ≡ 10 ∷ 0 ∷ 0 ∷ 0 ∷ 0 ∷ 0 ∷ 0 ∷ 0 ∷ 12 ∷ 0 ∷ 0 ∷ 0 ∷ []
+unfolding computes side-by-side
+own-bytes = refl
+
+own : Reaches side-by-side (lane 0) 0 (instrAt privately side-by-side) 1 0
+unfolding computes side-by-side
+own = P.stores S.B (vreg 1) (vreg 2) 0 (lit≤ tt, lit≤ tt)
+
+not-shared : Reaches side-by-side (lane 2) 0 (instrAt privately side-by-side) 1 0 → ⊥
+unfolding computes side-by-side
+not-shared r =
+    steps-apart privately privately side-by-side side-by-side refl refl refl (lane 0) (lane 2) refl refl (λ e. let z : 0 ≡ 2 = ap (λ (l : Lane). l .0) e in omega arith) 0 1 0 1 0 own r (lit≤ tt) (lit≤ tt)
 
 -- lane-words: VID.V gives lane 2 of v3 its number, and v1 keeps its word there
 two-left : LaneLeft start (instrAt numbering start) (lane 2) (stepOf numbering start .left .vector)

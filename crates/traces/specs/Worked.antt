@@ -1,4 +1,4 @@
--- Worked steps that are taken, beside the trace cards: stores of each size, loads of each kind, private accesses, divisions, CSRs read and written.
+-- Worked steps, beside the trace cards: stores of each size, loads of each kind, private accesses taken and refused, divisions, CSRs read and written.
 use Prim.Native.Nat.{ℕ}
 use mathlib.Core.List.{List, [], _∷_, _++_}
 use lib.ListN.{getD, take, drop, replicate}
@@ -9,7 +9,7 @@ use Rattle.definition.specs.Calls.{launchedOf, Ran}
 use Rattle.traces.specs.Machine.{Machine, ours}
 use Rattle.traces.specs.Trace.{Case, _gives_, file, Hold}
 
--- warp 1 of 2 with 4 threads each, so that TID is 4; lanes 0, 2 and 3 launched; data memory and private memory at 0x1000
+-- warp 1 of 2 with 4 threads each, so that TID is 4, which enters no private address; lanes 0, 2 and 3 launched; data memory and private memory at 0x1000
 abbrev launch : Launch
 launch =
     record {
@@ -102,9 +102,16 @@ module _ (M : Machine) where
       ∷ stored 0x0020F87B (0x1002 ∷ 0 ∷ 0x1001 ∷ 0x1005 ∷ []) gives (0 ∷ 0x80000004 ∷ (low ++ (0 ∷ 0xC4 ∷ 0xA4 ∷ 0 ∷ 0 ∷ 0xD4 ∷ replicate 10 0)))
       ∷ stored 0x0020B87B (0x1002 ∷ 0 ∷ 0x1001 ∷ 0x1005 ∷ []) gives (0 ∷ 0x80000004 ∷ (low ++ (0 ∷ 0xC4 ∷ 0xC3 ∷ 0xA3 ∷ 0 ∷ 0xD4 ∷ 0xD3 ∷ replicate 9 0)))
       ∷ stored 0x0020E87B (0x1002 ∷ 0 ∷ 0x1001 ∷ 0x1005 ∷ []) gives (0 ∷ 0x80000004 ∷ (low ++ (0 ∷ 0xC4 ∷ 0xC3 ∷ 0xC2 ∷ 0xC1 ∷ 0xD4 ∷ 0xD3 ∷ 0xD2 ∷ 0xD1 ∷ replicate 7 0)))
-      -- the private byte load and store, −1(v1): (v1 − 1)·8 + 4 + lane from 0x1000
-      ∷ lanes 0x7FF0812B (2 ∷ 7 ∷ 1 ∷ 1 ∷ []) (replicate 4 9) gives (0 ∷ 0x80000004 ∷ 0xFFFFFF95 ∷ 9 ∷ 0x33 ∷ 0xFFFFFF84 ∷ [])
-      ∷ stored 0x7E20FFAB (3 ∷ 3 ∷ 3 ∷ 3 ∷ []) gives (0 ∷ 0x80000004 ∷ (low ++ (0 ∷ 0 ∷ 0 ∷ 0 ∷ 0xA4 ∷ 0 ∷ 0xC4 ∷ 0xD4 ∷ replicate 8 0)))
+      -- the private byte load and store, −1(v1), at the places 1, 0, 3 and 4, 6, 7 of lanes 0, 2, 3: a lane's word 0 is at 4·lane, its word 1 at 16 + 4·lane
+      ∷ lanes 0x7FF0812B (2 ∷ 7 ∷ 1 ∷ 4 ∷ []) (replicate 4 9) gives (0 ∷ 0x80000004 ∷ 0xFFFFFF80 ∷ 9 ∷ 0xFFFFFF91 ∷ 0xFFFFFF98 ∷ [])
+      ∷ stored 0x7E20FFAB (5 ∷ 5 ∷ 7 ∷ 8 ∷ []) gives (0 ∷ 0x80000004 ∷ (low ++ (0xA4 ∷ replicate 9 0 ++ (0xC4 ∷ 0 ∷ 0 ∷ 0 ∷ 0 ∷ 0xD4 ∷ []))))
+      -- the private word store, 0(v1): the lanes' words 1 side by side; lane 1, which would cross, isn't active
+      ∷ stored 0x0020E02B (4 ∷ 5 ∷ 4 ∷ 4 ∷ []) gives (0 ∷ 0x80000004 ∷ (low ++ (0xA4 ∷ 0xA3 ∷ 0xA2 ∷ 0xA1 ∷ 0 ∷ 0 ∷ 0 ∷ 0 ∷ 0xC4 ∷ 0xC3 ∷ 0xC2 ∷ 0xC1 ∷ 0xD4 ∷ 0xD3 ∷ 0xD2 ∷ 0xD1 ∷ [])))
+      -- 14: lane 3's word at place 5; its half at place 3; lane 0's word at place 5, though lane 2's is outside. Lane 2's outside alone: 9
+      ∷ stored 0x0020E02B (4 ∷ 4 ∷ 4 ∷ 5 ∷ []) gives (14 ∷ 0x80000000 ∷ (low ++ replicate 16 0))
+      ∷ lanes 0x0000912B (2 ∷ 2 ∷ 2 ∷ 3 ∷ []) (replicate 4 9) gives (14 ∷ 0x80000000 ∷ replicate 4 9)
+      ∷ stored 0x0020E02B (5 ∷ 4 ∷ 400 ∷ 4 ∷ []) gives (14 ∷ 0x80000000 ∷ (low ++ replicate 16 0))
+      ∷ stored 0x0020E02B (4 ∷ 4 ∷ 400 ∷ 4 ∷ []) gives (9 ∷ 0x80000000 ∷ (low ++ replicate 16 0))
       -- vdiv.vv and vrem.vv v2, v2, v1
       ∷ divided 0x8620A157 gives (0 ∷ 0x80000004 ∷ 0xFFFFFFFD ∷ 5 ∷ 0xFFFFFFFF ∷ 0x80000000 ∷ [])
       ∷ divided 0x8E20A157 gives (0 ∷ 0x80000004 ∷ 0xFFFFFFFF ∷ 5 ∷ 7 ∷ 0 ∷ [])

@@ -5,10 +5,10 @@
 //! `cases answer FILE...` prints the reference's answers to case files, one
 //! file after the other.
 
-use reference::case::{evaluate, read_file, write_file, Case};
-use reference::generate::all_cases;
-use reference::isa::decode;
-use reference::state::Warp;
+use reference::case::{evaluate, read_file, write_file, Answer, Case};
+use reference::generate::{all_cases, low_mask};
+use reference::isa::{decode, Insn, Space};
+use reference::state::{Warp, LANES};
 use reference::table::{name, variants};
 use reference::{card, exec, run, saved};
 use std::collections::BTreeMap;
@@ -87,6 +87,9 @@ struct Stats {
     executed: BTreeMap<String, u64>,
     refused: BTreeMap<String, u64>,
     events: BTreeMap<&'static str, u64>,
+    /// Private accesses by what became of them, and their active lanes by size and u mod 4.
+    private: BTreeMap<String, u64>,
+    private_lanes: BTreeMap<String, u64>,
     deepest: u32,
     steps: u64,
     longest: u32,
@@ -100,11 +103,12 @@ impl Stats {
         kernel: &[u32],
         vector: &mut [u32],
         data: &mut [u8],
-        steps: u32,
+        answer: &Answer,
     ) {
-        for _ in 0..steps {
+        for _ in 0..answer.steps {
             let before = warp.clone();
             let insn = exec::fetch(&warp, kernel).and_then(decode).expect("a word that was taken");
+            self.count_private(&insn, &warp, vector, data, 0);
             assert_eq!(run::step(&mut warp, kernel, vector, data), 0);
             assert!(warp.well_formed(), "a step broke the state");
             let name = name(&insn);
@@ -114,7 +118,9 @@ impl Stats {
             *self.executed.entry(name).or_default() += 1;
             self.deepest = self.deepest.max(warp.depth);
         }
-        self.trace_refusal(warp, kernel, vector, data);
+        if answer.code != 0 {
+            self.trace_refusal(warp, kernel, vector, data, answer.code);
+        }
     }
 
     /// A refused step must change nothing.
@@ -124,16 +130,30 @@ impl Stats {
         kernel: &[u32],
         vector: &mut [u32],
         data: &mut [u8],
+        code: u32,
     ) {
+        let (now_vector, now_data) = (vector.to_vec(), data.to_vec());
+        let before = warp.clone();
+        assert_eq!(run::step(&mut warp, kernel, vector, data), code);
+        assert!(warp == before && now_vector == vector && now_data == data);
         if let Some(insn) = exec::fetch(&warp, kernel).and_then(decode) {
-            let (now_vector, now_data) = (vector.to_vec(), data.to_vec());
-            let before = warp.clone();
-            let code = run::step(&mut warp, kernel, vector, data);
-            if (7..=11).contains(&code) {
+            if matches!(code, 7..=11 | 14) {
                 *self.refused.entry(format!("{} {}", code, name(&insn))).or_default() += 1;
+                self.count_private(&insn, &warp, vector, data, code);
             }
-            if code != 0 {
-                assert!(warp == before && now_vector == vector && now_data == data);
+        }
+    }
+
+    /// If it is a private access: once by its answer, and once more for each fact.
+    fn count_private(&mut self, insn: &Insn, warp: &Warp, vector: &[u32], data: &[u8], code: u32) {
+        if let Some((us, size)) = private_us(insn, vector) {
+            let answer = if code == 0 { "taken".into() } else { format!("refused {code}") };
+            for fact in private_facts(warp, data, &us, size) {
+                *self.private.entry(format!("{answer}, {fact}")).or_default() += 1;
+            }
+            *self.private.entry(answer).or_default() += 1;
+            for u in (0..LANES).filter(|lane| warp.mask >> lane & 1 == 1).map(|lane| us[lane]) {
+                *self.private_lanes.entry(format!("{size} at {}", u % 4)).or_default() += 1;
             }
         }
     }
@@ -149,7 +169,7 @@ impl Stats {
                 if let Ok(launch) = card::read(card) {
                     let (code, warp) = run::launch(&launch, &kernel, &mut vector, &data);
                     if code == 0 {
-                        self.trace(warp, &kernel, &mut vector, &mut data, answer.steps);
+                        self.trace(warp, &kernel, &mut vector, &mut data, &answer);
                     }
                 }
                 "launch"
@@ -158,7 +178,7 @@ impl Stats {
                 let (kernel, mut data, mut vector) = (kernel.build(), data.build(), vector.build());
                 if answer.code != 1 && answer.code != 2 {
                     let warp = saved::from_words(state).expect("an accepted state");
-                    self.trace(warp, &kernel, &mut vector, &mut data, answer.steps);
+                    self.trace(warp, &kernel, &mut vector, &mut data, &answer);
                 }
                 "state"
             }
@@ -185,6 +205,58 @@ fn event(name: &str, before: &Warp, after: &Warp) -> Option<&'static str> {
     })
 }
 
+/// The u of each lane and the size, of a private access.
+fn private_us(insn: &Insn, vector: &[u32]) -> Option<(Vec<u32>, usize)> {
+    let (vs1, off, size) = match *insn {
+        Insn::Vload { space: Space::Private, kind, vs1, off, .. } => {
+            (vs1, off, exec::load_size(kind))
+        }
+        Insn::Vstore { space: Space::Private, kind, vs1, off, .. } => {
+            (vs1, off, exec::store_size(kind))
+        }
+        _ => return None,
+    };
+    let bases = &vector[LANES * vs1.index()..][..LANES];
+    Some((bases.iter().map(|base| base.wrapping_add(off)).collect(), size))
+}
+
+/// What is to be seen of a private access besides its answer.
+fn private_facts(warp: &Warp, data: &[u8], us: &[u32], size: usize) -> Vec<&'static str> {
+    let (f, active) = (&warp.fixed, warp.mask);
+    let crossing = mask_of(|lane| exec::crosses(us[lane], size));
+    let outside = mask_of(|lane| {
+        let address = exec::address(f, Space::Private, lane, us[lane]);
+        exec::place(data, f.data_base, address, size).is_err()
+    });
+    let large = mask_of(|lane| us[lane] >= 1024);
+    let wrapping = mask_of(|lane| {
+        let word = u64::from(us[lane] & !3) * u64::from(f.numt) + 4 * lane as u64;
+        word + u64::from(us[lane] % 4) + u64::from(f.pds) > u64::from(u32::MAX)
+    });
+    let several = active.count_ones() > 1;
+    let (cross, out) = (crossing & active, outside & active);
+    let facts = [
+        ("every lane of several crosses", several && cross == active),
+        ("one lane of several crosses", several && cross.count_ones() == 1),
+        ("the highest lane alone crosses", several && cross == 1 << (31 - active.leading_zeros())),
+        ("a crossing lane is outside", cross & out != 0),
+        ("a lane crosses, another is outside", cross != 0 && out & !cross != 0),
+        ("some lanes are outside, others inside", out != 0 && out != active),
+        (
+            "a lane of the warp that is not active would cross",
+            crossing & !active & low_mask(f.numt) != 0,
+        ),
+        ("u is 1,024 or more", large & active != 0),
+        ("an address wraps", wrapping & active != 0),
+        ("several warps", f.numw > 1),
+    ];
+    facts.iter().filter(|(_, holds)| *holds).map(|(fact, _)| *fact).collect()
+}
+
+fn mask_of(holds: impl Fn(usize) -> bool) -> u32 {
+    (0..LANES).filter(|lane| holds(*lane)).fold(0, |mask, lane| mask | 1 << lane)
+}
+
 fn statistics(cases: &[Case], file: usize) {
     let mut stats = Stats::default();
     cases.iter().for_each(|case| stats.count(case));
@@ -195,13 +267,15 @@ fn statistics(cases: &[Case], file: usize) {
     eprintln!("events {:?}", stats.events);
     eprintln!("executed {:?}", stats.executed);
     eprintln!("refused {:?}", stats.refused);
+    eprintln!("private {:?}", stats.private);
+    eprintln!("private lanes, bytes at u mod 4 {:?}", stats.private_lanes);
     for v in variants() {
         let times = stats.executed.get(&v.name).copied().unwrap_or(0);
         if times < 50 {
             eprintln!("TOO FEW: {} executed {times} times", v.name);
         }
     }
-    for code in 0..=13 {
+    for code in 0..=14 {
         let times = stats.codes.get(&code).copied().unwrap_or(0);
         if times < 20 {
             eprintln!("TOO FEW: code {code} occurs {times} times");

@@ -7,6 +7,6 @@ address-spec =
     tie.close
     (tie.spec
     (λ c. search needs) (λ c κs. rw (c .enum-told .given .1) at (c .before .before .pre .0))
-    (λ c. search needs) (λ c κs. rw (c .enum-told2 .given .1) at (c .before .before .pre))
+    (λ c. search needs) (λ c κs. rw (c .enum-told2 .given .1) at (c .before .before .pre .0)) (λ c κs. search needs)
     (λ c. rw (c .before .enum-told .given .1) (c .plain-address .ensures))
-    (λ c. rw (c .before .enum-told2 .given .1) (c .private-address .ensures)))
+    (λ c. rw (c .before .before .enum-told2 .given .1, ← c .before .own-place .ensures) (c .private-address .ensures)))
