@@ -7,7 +7,7 @@ ghost use lib.Seq.{sets};
 ghost use Rattle.big_endian.specs.Layout.{bytesOf};
 ghost use Rattle.definition.specs.State.{placeOf};
 ghost use Rattle.sheet_lines.specs.Sheet.{headSize, lineSize, stepLimit, sizeOf, lineValues, headOf, sheetOkOf, linesAt};
-ghost use Rattle.sheet_lines.specs.Compare.{compareOf};
+ghost use Rattle.sheet_lines.specs.Compare.{marksNumber, marksStep, compareOf};
 
 pub const HEAD_SIZE: usize = 5;
 
@@ -27,6 +27,32 @@ pub enum Marks {
     Differs(u32),
     Short,
     Long,
+}
+
+// The number of marks, for the calls on words.
+pub fn marks_number(m: Marks) -> u32
+    ensures { λ r. ⌜ r ≡ marksNumber m ⌝ }
+{
+    match m {
+        Marks::NoMarks => 0,
+        Marks::Full => 1,
+        Marks::Differs(_) => 2,
+        Marks::Short => 3,
+        Marks::Long => 4,
+    }
+}
+
+// The differing step, 0 of other marks.
+pub fn marks_step(m: Marks) -> u32
+    ensures { λ r. ⌜ r ≡ marksStep m ⌝ }
+{
+    match m {
+        Marks::NoMarks => 0,
+        Marks::Full => 0,
+        Marks::Differs(n) => n,
+        Marks::Short => 0,
+        Marks::Long => 0,
+    }
 }
 
 // A kernel's word, 0 past its end.
