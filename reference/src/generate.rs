@@ -341,7 +341,8 @@ fn state_case(warp: &Warp, kernel: Vec<u32>, g: Ground, budget: u32) -> Case {
     }
 }
 
-fn card_of(launch: &Launch) -> Vec<u8> {
+/// The card of a launch that is in range.
+pub fn card_of(launch: &Launch) -> Vec<u8> {
     let mut bytes = vec![0; card::CARD];
     card::write(launch, &mut bytes).expect("a launch in range");
     bytes
