@@ -7,6 +7,7 @@ pub mod card;
 pub mod case;
 pub mod exec;
 pub mod generate;
+pub mod generate_marks;
 pub mod isa;
 pub mod print;
 pub mod run;

@@ -68,7 +68,7 @@ pub fn steps_of(sheet: &[u8]) -> Result<&[u8], Refusal> {
 
 /// Launch and run to the first refusal or 4,096 steps: the steps as a sheet has them; 1 if the
 /// launch is refused, and 17 for no steps, which leaves the vector file cleared.
-fn run_steps(
+pub fn run_steps(
     launch: &Launch,
     kernel: &[u32],
     vector: &mut [u32],
