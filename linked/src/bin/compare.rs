@@ -108,6 +108,14 @@ impl Call<'_> {
         }
     }
 
+    /// For a message: a sheet is too long for one.
+    fn shown(&self) -> String {
+        match self {
+            Call::Mark(card, sheet) => format!("Mark({card:?}, {} bytes)", sheet.len()),
+            other => format!("{other:?}"),
+        }
+    }
+
     fn kind(&self) -> &'static str {
         match self {
             Call::Launch(_) => "launch",
@@ -254,7 +262,8 @@ impl Round<'_> {
             return Ok(ours);
         }
         let left = first_difference(&pair.linked, &pair.reference);
-        Err(format!("{call:?}: answer {ours} against the reference's {theirs}; {left}"))
+        let call = call.shown();
+        Err(format!("{call}: answer {ours} against the reference's {theirs}; {left}"))
     }
 
     /// Launches into a state of any words, seldom of another length, and goes on from there.
