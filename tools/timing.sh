@@ -1,7 +1,7 @@
 #!/bin/sh
-# tools/timing.sh [REPETITIONS]: times the proved library against the reference. Builds both libraries for the machine at hand, runs
-# `compare`, which must find no difference, then `timing` in four processes, and prints a table of their medians. No time is held to
-# anything, and no other work should run beside it (docs/SPEED.md).
+# tools/timing.sh [REPETITIONS]: times the proved library against the reference. Builds the three libraries for the machine at hand,
+# runs `compare`, which must find no difference, then `timing` in four processes, and prints a table of their medians, and last
+# `timing class`. No time is held to anything, and no other work should run beside it (docs/SPEED.md).
 set -eu
 usage() { echo 'usage: tools/timing.sh [REPETITIONS]   (how often each machine runs each kernel in a process, 1 to 65535; 201 if not given)' >&2; exit 2; }
 [ $# -le 1 ] || usage
@@ -17,8 +17,8 @@ trap 'rm -rf "$work"' EXIT
 # what a build prints is kept in a file, and looked at only where it fails
 build() { "$@" >>target/timing.log 2>&1 || { echo "timing.sh: this failed, and target/timing.log says why: $*" >&2; exit 1; }; }
 : >target/timing.log
-echo 'timing.sh: proving and building the two libraries' >&2
-for crate in capi capi_words; do
+echo 'timing.sh: proving and building the three libraries' >&2
+for crate in capi capi_words capi_sheet; do
     build tools/static_library.sh "$crate" "linked/lib$crate.a"
 done
 build cargo build --release --manifest-path linked/Cargo.toml
@@ -51,3 +51,5 @@ awk -F ' *[|] *' '
             printf "| %s | %s | %.1f | %.1f | %.2f |\n", k, steps[k], median(k, 4), median(k, 6), median(k, 8)
         }
     }' "$work/1" "$work/2" "$work/3" "$work/4"
+echo
+"$programs/timing" class "$repetitions"

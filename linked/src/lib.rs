@@ -17,15 +17,20 @@ pub struct Lent {
     pub state: Vec<u32>,
     pub vector: Vec<u32>,
     pub data: Vec<u8>,
-    /// Where a run puts its count; another length than 1 is refused.
-    pub steps: Vec<u32>,
+    /// Where a run puts its count and a written sheet its size, one word, and a mark its result, two
+    /// words; another length is refused.
+    pub words: Vec<u32>,
+    /// Where a sheet is written.
+    pub target: Vec<u8>,
 }
 
-/// The five calls, as docs/FILES.md has them.
+/// The seven calls, as docs/FILES.md has them.
 pub trait Machine {
     fn launch(card: &[u8], kernel: &[u32], lent: &mut Lent) -> u32;
     fn step(kernel: &[u32], lent: &mut Lent) -> u32;
     fn run(kernel: &[u32], budget: u32, lent: &mut Lent) -> u32;
     fn release(state: &mut [u32]) -> u32;
     fn decode(word: u32) -> u32;
+    fn mark(card: &[u8], kernel: &[u32], sheet: &[u8], lent: &mut Lent) -> u32;
+    fn write_sheet(card: &[u8], kernel: &[u32], lent: &mut Lent) -> u32;
 }

@@ -1,6 +1,6 @@
-//! The five calls of the two linked libraries, made safe. Nothing checks these declarations against
-//! src/lib.rt of crates capi and capi_words: a slice is passed as its pointer and then its length
-//! in elements.
+//! The seven calls of the three linked libraries, made safe. Nothing checks these declarations
+//! against src/lib.rt of crates capi, capi_words and capi_sheet: a slice is passed as its pointer
+//! and then its length in elements.
 
 use crate::{Lent, Machine};
 
@@ -43,6 +43,34 @@ mod c {
         ) -> u32;
         pub fn bench_release(state: *mut u32, state_words: usize) -> u32;
         pub fn bench_decode(word: u32) -> u32;
+        pub fn bench_mark(
+            card: *const u8,
+            card_bytes: usize,
+            kernel: *const u32,
+            kernel_words: usize,
+            vector: *mut u32,
+            vector_words: usize,
+            data: *mut u8,
+            data_bytes: usize,
+            sheet: *const u8,
+            sheet_bytes: usize,
+            result: *mut u32,
+            result_words: usize,
+        ) -> u32;
+        pub fn bench_sheet(
+            card: *const u8,
+            card_bytes: usize,
+            kernel: *const u32,
+            kernel_words: usize,
+            vector: *mut u32,
+            vector_words: usize,
+            data: *mut u8,
+            data_bytes: usize,
+            target: *mut u8,
+            target_bytes: usize,
+            written: *mut u32,
+            written_words: usize,
+        ) -> u32;
     }
 }
 
@@ -87,7 +115,7 @@ impl Machine for Linked {
     }
 
     fn run(kernel: &[u32], budget: u32, lent: &mut Lent) -> u32 {
-        let Lent { state, vector, data, steps } = lent;
+        let Lent { state, vector, data, words, .. } = lent;
         unsafe {
             c::bench_run(
                 state.as_mut_ptr(),
@@ -99,8 +127,8 @@ impl Machine for Linked {
                 data.as_mut_ptr(),
                 data.len(),
                 budget,
-                steps.as_mut_ptr(),
-                steps.len(),
+                words.as_mut_ptr(),
+                words.len(),
             )
         }
     }
@@ -111,5 +139,45 @@ impl Machine for Linked {
 
     fn decode(word: u32) -> u32 {
         unsafe { c::bench_decode(word) }
+    }
+
+    fn mark(card: &[u8], kernel: &[u32], sheet: &[u8], lent: &mut Lent) -> u32 {
+        let Lent { vector, data, words, .. } = lent;
+        unsafe {
+            c::bench_mark(
+                card.as_ptr(),
+                card.len(),
+                kernel.as_ptr(),
+                kernel.len(),
+                vector.as_mut_ptr(),
+                vector.len(),
+                data.as_mut_ptr(),
+                data.len(),
+                sheet.as_ptr(),
+                sheet.len(),
+                words.as_mut_ptr(),
+                words.len(),
+            )
+        }
+    }
+
+    fn write_sheet(card: &[u8], kernel: &[u32], lent: &mut Lent) -> u32 {
+        let Lent { vector, data, words, target, .. } = lent;
+        unsafe {
+            c::bench_sheet(
+                card.as_ptr(),
+                card.len(),
+                kernel.as_ptr(),
+                kernel.len(),
+                vector.as_mut_ptr(),
+                vector.len(),
+                data.as_mut_ptr(),
+                data.len(),
+                target.as_mut_ptr(),
+                target.len(),
+                words.as_mut_ptr(),
+                words.len(),
+            )
+        }
     }
 }

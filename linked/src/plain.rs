@@ -1,7 +1,7 @@
-//! The reference behind the five calls.
+//! The reference behind the seven calls.
 
 use crate::{Lent, Machine};
-use reference::{isa, saved, Refusal};
+use reference::{isa, saved, sheet, Refusal};
 
 /// The interpreter of `reference/`.
 pub struct Reference;
@@ -16,12 +16,12 @@ impl Machine for Reference {
     }
 
     fn run(kernel: &[u32], budget: u32, lent: &mut Lent) -> u32 {
-        let Lent { state, vector, data, steps } = lent;
-        if steps.len() != 1 {
+        let Lent { state, vector, data, words, .. } = lent;
+        if words.len() != 1 {
             return Refusal::Size.number();
         }
         let (code, taken) = saved::run(state, kernel, vector, data, budget);
-        steps[0] = taken;
+        words[0] = taken;
         code
     }
 
@@ -31,5 +31,15 @@ impl Machine for Reference {
 
     fn decode(word: u32) -> u32 {
         isa::decode(word).map_or(Refusal::NoInstruction.number(), |_| 0)
+    }
+
+    fn mark(card: &[u8], kernel: &[u32], sheet: &[u8], lent: &mut Lent) -> u32 {
+        let Lent { vector, data, words, .. } = lent;
+        sheet::bench_mark(card, kernel, vector, data, sheet, words)
+    }
+
+    fn write_sheet(card: &[u8], kernel: &[u32], lent: &mut Lent) -> u32 {
+        let Lent { vector, data, words, target, .. } = lent;
+        sheet::bench_sheet(card, kernel, vector, data, target, words)
     }
 }

@@ -2,9 +2,12 @@
 //! The format is written down in CASES-FORMAT.md.
 
 use crate::state::{Fixed, Launch};
-use crate::{card, code, saved};
+use crate::{card, code, saved, sheet};
 
 pub const MAGIC: &[u8; 4] = b"WBC1";
+
+/// What a call is to write over: each byte of a target, and of the words for an answer.
+const BEFORE: u8 = 0xa5;
 
 /// A kernel: `words`, then `fill` up to `total`.
 #[derive(Clone, Debug, PartialEq, Eq)]
@@ -31,6 +34,15 @@ pub struct Vector {
     pub mask: u32,
 }
 
+/// A card, and what is lent with it.
+#[derive(Clone, Debug, PartialEq, Eq)]
+pub struct Job {
+    pub card: Vec<u8>,
+    pub kernel: Kernel,
+    pub data: Data,
+    pub vector: Vector,
+}
+
 /// What the last field of the answer to a launch shows.
 #[derive(Clone, Copy, Debug, PartialEq, Eq)]
 pub enum Shown {
@@ -51,6 +63,8 @@ mod kind {
     pub const CARD_WRITE: u8 = 5;
     pub const CHECKS_ITSELF: u8 = 6;
     pub const DATA_ONLY: u8 = 7;
+    pub const MARK: u8 = 8;
+    pub const SHEET: u8 = 9;
 }
 
 /// The kinds of a launch by what they show.
@@ -59,31 +73,84 @@ const LAUNCH_KINDS: [(u8, Shown); 3] =
 
 #[derive(Clone, Debug, PartialEq, Eq)]
 pub enum Case {
-    Launch { card: Vec<u8>, kernel: Kernel, data: Data, vector: Vector, budget: u32, shown: Shown },
-    State { state: Vec<u32>, kernel: Kernel, data: Data, vector: Vector, budget: u32 },
-    CardRead { card: Vec<u8> },
-    Release { state: Vec<u32> },
-    CardWrite { launch: [u32; 14], target: u32 },
+    Launch {
+        job: Job,
+        budget: u32,
+        shown: Shown,
+    },
+    State {
+        state: Vec<u32>,
+        kernel: Kernel,
+        data: Data,
+        vector: Vector,
+        budget: u32,
+    },
+    CardRead {
+        card: Vec<u8>,
+    },
+    Release {
+        state: Vec<u32>,
+    },
+    CardWrite {
+        launch: [u32; 14],
+        target: u32,
+    },
+    /// `result` words for the mark.
+    Mark {
+        job: Job,
+        sheet: Vec<u8>,
+        result: u32,
+    },
+    /// A target of so many bytes, and `written` words for the sheet's size.
+    Sheet {
+        job: Job,
+        target: u32,
+        written: u32,
+    },
 }
 
 /// What one line of the expected output says.
 #[derive(Clone, Copy, Debug, PartialEq, Eq)]
 pub struct Answer {
     pub code: u32,
-    pub steps: u32,
-    pub pc: u32,
-    pub mask: u32,
-    pub splits: u32,
+    pub said: Said,
     /// Mostly a digest; see `Shown`.
     pub last: u32,
 }
 
+/// What a line says between code and digest, by the kind of its case.
+#[derive(Clone, Copy, Debug, PartialEq, Eq)]
+pub enum Said {
+    Warp {
+        steps: u32,
+        pc: u32,
+        mask: u32,
+        splits: u32,
+    },
+    /// The two words of a mark.
+    Mark([u32; 2]),
+    /// A written sheet's size.
+    Sheet([u32; 1]),
+}
+
 impl Answer {
     pub fn line(&self, number: usize) -> String {
-        format!(
-            "{number} {} {} {:08x} {:08x} {} {:08x}\n",
-            self.code, self.steps, self.pc, self.mask, self.splits, self.last
-        )
+        let said = match self.said {
+            Said::Warp { steps, pc, mask, splits } => {
+                format!("{steps} {pc:08x} {mask:08x} {splits}")
+            }
+            Said::Mark([mark, step]) => format!("{mark} {step}"),
+            Said::Sheet([bytes]) => bytes.to_string(),
+        };
+        format!("{number} {} {said} {:08x}\n", self.code, self.last)
+    }
+
+    /// The steps of a run; a sheet's line doesn't say them.
+    pub fn steps(&self) -> u32 {
+        match self.said {
+            Said::Warp { steps, .. } => steps,
+            _ => 0,
+        }
     }
 }
 
@@ -132,6 +199,13 @@ impl Vector {
                 }
             })
             .collect()
+    }
+}
+
+impl Job {
+    /// What is lent: kernel, vector file and data.
+    pub fn build(&self) -> (Vec<u32>, Vec<u32>, Vec<u8>) {
+        (self.kernel.build(), self.vector.build(), self.data.build())
     }
 }
 
@@ -197,9 +271,7 @@ pub fn launch_of(w: &[u32; 14]) -> Launch {
 /// The answer of the reference to a case.
 pub fn evaluate(case: &Case) -> Answer {
     match case {
-        Case::Launch { card, kernel, data, vector, budget, shown } => {
-            launch_and_run(card, &kernel.build(), data.build(), vector.build(), *budget, *shown)
-        }
+        Case::Launch { job, budget, shown } => launch_and_run(job, *budget, *shown),
         Case::State { state, kernel, data, vector, budget } => {
             run_state(state.clone(), &kernel.build(), data.build(), vector.build(), *budget)
         }
@@ -210,24 +282,20 @@ pub fn evaluate(case: &Case) -> Answer {
             answer(code, 0, &state, digest(&state, &[], &[]))
         }
         Case::CardWrite { launch, target } => {
-            let mut bytes = vec![0xa5; *target as usize];
+            let mut bytes = target_bytes(*target);
             let code = code(card::write(&launch_of(launch), &mut bytes));
-            Answer { code, steps: 0, pc: 0, mask: 0, splits: 0, last: digest(&[], &[], &bytes) }
+            answer(code, 0, &[], digest(&[], &[], &bytes))
         }
+        Case::Mark { job, sheet, result } => mark(job, sheet, *result),
+        Case::Sheet { job, target, written } => write_sheet(job, *target, *written),
     }
 }
 
-fn launch_and_run(
-    card: &[u8],
-    kernel: &[u32],
-    mut data: Vec<u8>,
-    mut vector: Vec<u32>,
-    budget: u32,
-    shown: Shown,
-) -> Answer {
+fn launch_and_run(job: &Job, budget: u32, shown: Shown) -> Answer {
+    let (kernel, mut vector, mut data) = job.build();
     let mut state = [0; saved::WORDS];
-    let (code, steps) = match saved::launch(card, kernel, &mut vector, &data, &mut state) {
-        0 => saved::run(&mut state, kernel, &mut vector, &mut data, budget),
+    let (code, steps) = match saved::launch(&job.card, &kernel, &mut vector, &data, &mut state) {
+        0 => saved::run(&mut state, &kernel, &mut vector, &mut data, budget),
         refused => (refused, 0),
     };
     let last = match shown {
@@ -255,7 +323,40 @@ fn read_card(card: &[u8]) -> Answer {
         Err(refusal) => (refusal.number(), Launch::default()),
     };
     let (pc, mask) = (launch.entry, launch.fixed.mask);
-    Answer { code, steps: 0, pc, mask, splits: 0, last: digest(&launch_words(&launch), &[], &[]) }
+    let said = Said::Warp { steps: 0, pc, mask, splits: 0 };
+    Answer { code, said, last: digest(&launch_words(&launch), &[], &[]) }
+}
+
+/// The words that a call is to put its answer in.
+pub fn answer_words(count: u32) -> Vec<u32> {
+    vec![u32::from_be_bytes([BEFORE; 4]); count as usize]
+}
+
+/// All of a call's words if they are as many as it takes, else zeros.
+fn said_words<const N: usize>(words: &[u32]) -> [u32; N] {
+    words.try_into().unwrap_or([0; N])
+}
+
+fn mark(job: &Job, sheet: &[u8], result: u32) -> Answer {
+    let (kernel, mut vector, mut data) = job.build();
+    let mut result = answer_words(result);
+    let code = sheet::bench_mark(&job.card, &kernel, &mut vector, &mut data, sheet, &mut result);
+    let said = Said::Mark(said_words(&result));
+    Answer { code, said, last: digest(&result, &vector, &data) }
+}
+
+/// The bytes that a call is to write over.
+pub fn target_bytes(bytes: u32) -> Vec<u8> {
+    vec![BEFORE; bytes as usize]
+}
+
+fn write_sheet(job: &Job, target: u32, written: u32) -> Answer {
+    let (kernel, mut vector, mut data) = job.build();
+    let (mut target, mut written) = (target_bytes(target), answer_words(written));
+    let code =
+        sheet::bench_sheet(&job.card, &kernel, &mut vector, &mut data, &mut target, &mut written);
+    let digest = Digest::new().words(&written).bytes(&target).words(&vector).bytes(&data);
+    Answer { code, said: Said::Sheet(said_words(&written)), last: digest.0 }
 }
 
 fn digest(state: &[u32], vector: &[u32], data: &[u8]) -> u32 {
@@ -265,14 +366,8 @@ fn digest(state: &[u32], vector: &[u32], data: &[u8]) -> u32 {
 fn answer(code: u32, steps: u32, state: &[u32], last: u32) -> Answer {
     let whole = state.len() == saved::WORDS;
     let word = |at: usize| if whole { state[at] } else { 0 };
-    Answer {
-        code,
-        steps,
-        pc: word(saved::PC_AT),
-        mask: word(saved::MASK_AT),
-        splits: word(saved::OPEN_AT),
-        last,
-    }
+    let (pc, mask, splits) = (word(saved::PC_AT), word(saved::MASK_AT), word(saved::OPEN_AT));
+    Answer { code, said: Said::Warp { steps, pc, mask, splits }, last }
 }
 
 // Writing.
@@ -286,7 +381,7 @@ fn put_bytes(out: &mut Vec<u8>, bytes: &[u8]) {
     out.extend_from_slice(bytes);
 }
 
-fn put_runs(out: &mut Vec<u8>, kernel: &Kernel, data: &Data, vector: &Vector, budget: u32) {
+fn put_runs(out: &mut Vec<u8>, kernel: &Kernel, data: &Data, vector: &Vector) {
     put(out, kernel.total);
     put(out, kernel.words.len() as u32);
     kernel.words.iter().for_each(|w| put(out, *w));
@@ -298,7 +393,11 @@ fn put_runs(out: &mut Vec<u8>, kernel: &Kernel, data: &Data, vector: &Vector, bu
     put(out, vector.seed);
     put(out, vector.base);
     put(out, vector.mask);
-    put(out, budget);
+}
+
+fn put_job(out: &mut Vec<u8>, job: &Job) {
+    put_bytes(out, &job.card);
+    put_runs(out, &job.kernel, &job.data, &job.vector);
 }
 
 fn put_state(out: &mut Vec<u8>, state: &[u32]) {
@@ -312,37 +411,52 @@ fn put_state(out: &mut Vec<u8>, state: &[u32]) {
     }
 }
 
+/// Writes a case's body and returns its kind.
+fn put_body(body: &mut Vec<u8>, case: &Case) -> u8 {
+    match case {
+        Case::Launch { job, budget, shown } => {
+            put_job(body, job);
+            put(body, *budget);
+            LAUNCH_KINDS.iter().find(|(_, s)| s == shown).expect("every one has its kind").0
+        }
+        Case::State { state, kernel, data, vector, budget } => {
+            put_state(body, state);
+            put_runs(body, kernel, data, vector);
+            put(body, *budget);
+            kind::STATE
+        }
+        Case::CardRead { card } => {
+            put_bytes(body, card);
+            kind::CARD_READ
+        }
+        Case::Release { state } => {
+            put_state(body, state);
+            kind::RELEASE
+        }
+        Case::CardWrite { launch, target } => {
+            launch.iter().chain([target]).for_each(|w| put(body, *w));
+            kind::CARD_WRITE
+        }
+        Case::Mark { job, sheet, result } => {
+            put_job(body, job);
+            put_bytes(body, sheet);
+            put(body, *result);
+            kind::MARK
+        }
+        Case::Sheet { job, target, written } => {
+            put_job(body, job);
+            [target, written].iter().for_each(|w| put(body, **w));
+            kind::SHEET
+        }
+    }
+}
+
 pub fn write_file(cases: &[Case]) -> Vec<u8> {
     let mut out = MAGIC.to_vec();
     put(&mut out, cases.len() as u32);
     for case in cases {
         let mut body = Vec::new();
-        let kind = match case {
-            Case::Launch { card, kernel, data, vector, budget, shown } => {
-                put_bytes(&mut body, card);
-                put_runs(&mut body, kernel, data, vector, *budget);
-                let kind = LAUNCH_KINDS.iter().find(|(_, s)| s == shown);
-                kind.expect("every one has its kind").0
-            }
-            Case::State { state, kernel, data, vector, budget } => {
-                put_state(&mut body, state);
-                put_runs(&mut body, kernel, data, vector, *budget);
-                kind::STATE
-            }
-            Case::CardRead { card } => {
-                put_bytes(&mut body, card);
-                kind::CARD_READ
-            }
-            Case::Release { state } => {
-                put_state(&mut body, state);
-                kind::RELEASE
-            }
-            Case::CardWrite { launch, target } => {
-                launch.iter().for_each(|w| put(&mut body, *w));
-                put(&mut body, *target);
-                kind::CARD_WRITE
-            }
-        };
+        let kind = put_body(&mut body, case);
         out.push(kind);
         put_bytes(&mut out, &body);
     }
@@ -399,6 +513,14 @@ impl<'a> Reader<'a> {
         }
         Some(state)
     }
+    fn job(&mut self) -> Option<Job> {
+        Some(Job {
+            card: self.run()?.to_vec(),
+            kernel: self.kernel()?,
+            data: self.data()?,
+            vector: self.vector()?,
+        })
+    }
     fn case(&mut self) -> Option<Case> {
         let kind = self.byte()?;
         let mut r = Reader(self.run()?);
@@ -419,12 +541,11 @@ impl<'a> Reader<'a> {
                 }
                 Case::CardWrite { launch, target: r.word()? }
             }
+            kind::MARK => Case::Mark { job: r.job()?, sheet: r.run()?.to_vec(), result: r.word()? },
+            kind::SHEET => Case::Sheet { job: r.job()?, target: r.word()?, written: r.word()? },
             launch => Case::Launch {
                 shown: LAUNCH_KINDS.iter().find(|(kind, _)| *kind == launch)?.1,
-                card: r.run()?.to_vec(),
-                kernel: r.kernel()?,
-                data: r.data()?,
-                vector: r.vector()?,
+                job: r.job()?,
                 budget: r.word()?,
             },
         };

@@ -2,7 +2,7 @@
 //! not, drawn from the number of a round. Round 0 makes the stored cases, any
 //! other round others of the same kinds.
 
-use crate::case::{evaluate, launch_words, Case, Data, Kernel, Shown, Vector};
+use crate::case::{evaluate, launch_words, Case, Data, Job, Kernel, Shown, Vector};
 use crate::exec::address;
 use crate::isa::{Space, ENDPRG, JOIN};
 use crate::state::{Fixed, Launch, Split, Warp};
@@ -23,7 +23,7 @@ impl Rng {
         rng
     }
     /// For one family of cases of a round; in round 0 the family's number is the seed.
-    fn of_family(round: u32, family: u64) -> Rng {
+    pub(crate) fn of_family(round: u32, family: u64) -> Rng {
         Rng::new(128 * u64::from(round) + family)
     }
     pub fn word(&mut self) -> u32 {
@@ -341,21 +341,28 @@ fn state_case(warp: &Warp, kernel: Vec<u32>, g: Ground, budget: u32) -> Case {
     }
 }
 
-fn card_of(launch: &Launch) -> Vec<u8> {
+/// The card of a launch that is in range.
+pub fn card_of(launch: &Launch) -> Vec<u8> {
     let mut bytes = vec![0; card::CARD];
     card::write(launch, &mut bytes).expect("a launch in range");
     bytes
 }
 
+fn job_of(g: Ground, entry: u32, kernel: Vec<u32>) -> Job {
+    let card = card_of(&Launch { fixed: g.fixed, entry });
+    Job { card, kernel: Kernel::plain(kernel), data: g.data, vector: g.vector }
+}
+
 fn launch_case(g: Ground, entry: u32, kernel: Vec<u32>, budget: u32) -> Case {
-    Case::Launch {
-        card: card_of(&Launch { fixed: g.fixed, entry }),
-        kernel: Kernel::plain(kernel),
-        data: g.data,
-        vector: g.vector,
-        budget,
-        shown: Shown::All,
-    }
+    Case::Launch { job: job_of(g, entry, kernel), budget, shown: Shown::All }
+}
+
+/// A job on the small fixed ground, all of its lanes launched.
+pub(crate) fn plain_job(numt: u32, kernel: Vec<u32>) -> Job {
+    let mut g = plain_ground();
+    (g.fixed.numt, g.fixed.mask) = (numt, low_mask(numt));
+    let entry = g.fixed.code_base;
+    job_of(g, entry, kernel)
 }
 
 /// A small fixed ground: NUMT 4 of one warp, 32 bytes of data.
@@ -411,9 +418,8 @@ fn lengthen_budgets(round: u32, out: &mut [Case]) {
     for case in out {
         let refused = evaluate(case).code != 0;
         let (kernel, budget) = match case {
-            Case::Launch { kernel, budget, .. } | Case::State { kernel, budget, .. } => {
-                (kernel, budget)
-            }
+            Case::Launch { job, budget, .. } => (&job.kernel, budget),
+            Case::State { kernel, budget, .. } => (&*kernel, budget),
             _ => continue,
         };
         if rng.chance(6) && refused {
@@ -1443,8 +1449,8 @@ fn size_case(rng: &mut Rng, lent: Sizes, state: bool) -> Case {
         let state = saved::to_words(&Warp::launched(&launch)).to_vec();
         Case::State { state, kernel, data, vector, budget }
     } else {
-        let (card, shown) = (card_of(&launch), Shown::All);
-        Case::Launch { card, kernel, data, vector, budget, shown }
+        let job = Job { card: card_of(&launch), kernel, data, vector };
+        Case::Launch { job, budget, shown: Shown::All }
     }
 }
 
@@ -1480,14 +1486,13 @@ fn cards(round: u32, out: &mut Vec<Case>) {
     // A launch from such cards: every other one.
     for card in damaged.into_iter().step_by(2) {
         let g = plain_ground();
-        out.push(Case::Launch {
+        let job = Job {
             card,
             kernel: Kernel::plain(if rng.chance(8) { vec![] } else { vec![NOP, ENDPRG] }),
             data: g.data,
             vector: Vector { seed: rng.word(), ..g.vector },
-            budget: rng.below(4),
-            shown: Shown::All,
-        });
+        };
+        out.push(Case::Launch { job, budget: rng.below(4), shown: Shown::All });
     }
     cards_written(&mut rng, out);
 }

@@ -7,10 +7,12 @@ pub mod card;
 pub mod case;
 pub mod exec;
 pub mod generate;
+pub mod generate_marks;
 pub mod isa;
 pub mod print;
 pub mod run;
 pub mod saved;
+pub mod sheet;
 pub mod state;
 pub mod table;
 
@@ -46,6 +48,10 @@ pub enum Refusal {
     Card = 13,
     /// 14: a private access that crosses a word boundary of its lane.
     Crossing = 14,
+    /// 16: malformed sheet.
+    Sheet = 16,
+    /// 17: a run of no steps.
+    NoSteps = 17,
 }
 
 impl Refusal {

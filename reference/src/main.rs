@@ -1,37 +1,94 @@
-//! Run one warp: `reference CARD KERNEL DATA`. A missing file counts as empty.
+//! Runs one warp: `reference CARD KERNEL DATA`; writes the run's own sheet:
+//! `reference sheet CARD KERNEL DATA OUT`; marks a sheet: `reference mark CARD KERNEL DATA SHEET`.
+//! A missing file counts as empty.
 
-use reference::{card, print, run, Refusal};
-use std::ffi::OsString;
+use reference::state::Launch;
+use reference::{card, print, run, sheet, Refusal};
+use std::ffi::{OsStr, OsString};
 use std::process::ExitCode;
 
+const USAGE: &str = "usage: reference CARD KERNEL DATA
+       reference sheet CARD KERNEL DATA OUT
+       reference mark CARD KERNEL DATA SHEET
+    (a missing file counts as empty)";
+
 fn main() -> ExitCode {
-    let files: Vec<OsString> = std::env::args_os().skip(1).collect();
-    if let [card, kernel, data] = &files[..] {
-        let read = |name: &OsString| std::fs::read(name).unwrap_or_default();
-        print!("{}", report(&read(card), &read(kernel), &mut read(data)));
-        ExitCode::SUCCESS
-    } else {
-        eprintln!("usage: reference CARD KERNEL DATA   (a missing file counts as empty)");
-        ExitCode::from(2)
+    let arguments: Vec<OsString> = std::env::args_os().skip(1).collect();
+    match &arguments[..] {
+        [card, kernel, data] => print!("{}", report(Files::read(card, kernel, data))),
+        [call, card, kernel, data, sheet] if call == "mark" => {
+            println!("{}", marked(Files::read(card, kernel, data), &read(sheet)));
+        }
+        [call, card, kernel, data, out] if call == "sheet" => {
+            if let Err(wrong) = write_sheet(Files::read(card, kernel, data), out) {
+                eprintln!("{wrong}");
+                return ExitCode::FAILURE;
+            }
+        }
+        _ => {
+            eprintln!("{USAGE}");
+            return ExitCode::from(2);
+        }
+    }
+    ExitCode::SUCCESS
+}
+
+fn read(name: &OsStr) -> Vec<u8> {
+    std::fs::read(name).unwrap_or_default()
+}
+
+/// The bytes of the three files, and the vector file of a launch on them.
+struct Files {
+    card: Vec<u8>,
+    kernel: Vec<u8>,
+    data: Vec<u8>,
+    vector: [u32; run::VECTOR_WORDS],
+}
+
+impl Files {
+    fn read(card: &OsStr, kernel: &OsStr, data: &OsStr) -> Files {
+        let (card, kernel, data) = (read(card), read(kernel), read(data));
+        Files { card, kernel, data, vector: [0; run::VECTOR_WORDS] }
+    }
+
+    /// The launch and the kernel's words; the sizes are the launch's to test.
+    fn open(&self) -> Result<(Launch, Vec<u32>), Refusal> {
+        let launch = card::read(&self.card)?;
+        let words = self.kernel.chunks_exact(4);
+        if !words.remainder().is_empty() {
+            return Err(Refusal::Size);
+        }
+        let kernel = words.map(|w| u32::from_le_bytes(w.try_into().expect("4 bytes"))).collect();
+        Ok((launch, kernel))
     }
 }
 
-fn report(card_bytes: &[u8], kernel_bytes: &[u8], data: &mut [u8]) -> String {
-    let launch = match card::read(card_bytes) {
-        Ok(launch) => launch,
+fn report(mut files: Files) -> String {
+    let (launch, kernel) = match files.open() {
+        Ok(opened) => opened,
         Err(refusal) => return print::code_line(refusal.number()),
     };
-    let words = kernel_bytes.chunks_exact(4);
-    if !words.remainder().is_empty() {
-        return print::code_line(Refusal::Size.number());
-    }
-    let kernel: Vec<u32> =
-        words.map(|w| u32::from_le_bytes(w.try_into().expect("4 bytes"))).collect();
-    let mut vector = [0; run::VECTOR_WORDS];
-    let (code, mut warp) = run::launch(&launch, &kernel, &mut vector, data);
+    let Files { vector, data, .. } = &mut files;
+    let (code, mut warp) = run::launch(&launch, &kernel, vector, data);
     if code != 0 {
         return print::code_line(code);
     }
-    let (code, steps) = run::run(&mut warp, &kernel, &mut vector, data, 65_536);
+    let (code, steps) = run::run(&mut warp, &kernel, vector, data, 65_536);
     print::five_lines(code, steps, &warp)
+}
+
+fn marked(mut files: Files, sheet: &[u8]) -> String {
+    let mark = files.open().and_then(|(launch, kernel)| {
+        sheet::mark(&launch, &kernel, &mut files.vector, &mut files.data, sheet)
+    });
+    mark.map_or_else(print::refused, print::mark)
+}
+
+/// A refusal leaves the file as it was.
+fn write_sheet(mut files: Files, out: &OsStr) -> Result<(), String> {
+    let steps = files.open().and_then(|(launch, kernel)| {
+        sheet::run_steps(&launch, &kernel, &mut files.vector, &mut files.data)
+    });
+    let sheet = sheet::sheet_of(&steps.map_err(print::refused)?);
+    std::fs::write(out, sheet).map_err(|error| format!("{}: {error}", out.to_string_lossy()))
 }

@@ -1,6 +1,8 @@
-//! The printout of a run.
+//! The printout of a run, and what is printed of a mark.
 
+use crate::sheet::Mark;
 use crate::state::Warp;
+use crate::Refusal;
 
 /// The five lines after a launched run.
 pub fn five_lines(code: u32, steps: u32, warp: &Warp) -> String {
@@ -13,4 +15,28 @@ pub fn five_lines(code: u32, steps: u32, warp: &Warp) -> String {
 /// The one line after a refused card or launch.
 pub fn code_line(code: u32) -> String {
     format!("code {code}\n")
+}
+
+/// What is said of a mark.
+pub fn mark(mark: Mark) -> String {
+    match mark {
+        Mark::Full => "full marks".into(),
+        Mark::Differs(step) => format!("differs at step {step}"),
+        Mark::Short { on_sheet, in_run } => format!("short: {on_sheet} of {in_run} steps"),
+        Mark::Long { on_sheet, in_run } => format!("long: {on_sheet} of {in_run} steps"),
+    }
+}
+
+/// What is said where a sheet is not marked.
+pub fn refused(refusal: Refusal) -> String {
+    let words = match refusal {
+        Refusal::Size => "a size, a base plus a length or a launch value is out of range",
+        Refusal::Card => "the card is missing, or its total, length or version is wrong",
+        Refusal::Sheet => {
+            "the sheet is missing, or its length, version or number of steps is wrong"
+        }
+        Refusal::NoSteps => "the run has no steps",
+        _ => unreachable!("no mark is refused with {}", refusal.number()),
+    };
+    format!("refused {}: {words}", refusal.number())
 }

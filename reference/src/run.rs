@@ -30,11 +30,23 @@ pub fn test_runs(
     }
 }
 
+/// Refusal 1 of a launch: its values, and the lent runs.
+pub fn test_launch(
+    launch: &Launch,
+    kernel: &[u32],
+    vector: &[u32],
+    data: &[u8],
+) -> Result<(), Refusal> {
+    if !launch.in_range() {
+        return Err(Refusal::Size);
+    }
+    test_runs(launch.fixed.code_base, launch.fixed.data_base, kernel, vector, data)
+}
+
 /// Launch a warp: a refusal gives the state of all zeros and clears nothing.
 pub fn launch(launch: &Launch, kernel: &[u32], vector: &mut [u32], data: &[u8]) -> (u32, Warp) {
-    let f = &launch.fixed;
-    if !launch.in_range() || test_runs(f.code_base, f.data_base, kernel, vector, data).is_err() {
-        return (Refusal::Size.number(), Warp::default());
+    if let Err(refusal) = test_launch(launch, kernel, vector, data) {
+        return (refusal.number(), Warp::default());
     }
     vector.fill(0);
     (0, Warp::launched(launch))

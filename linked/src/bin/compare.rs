@@ -1,10 +1,11 @@
 //! Makes the same calls on the proved library and on the reference, and stops at the first
-//! difference in an answer, a count, a state, a vector file or data.
+//! difference in an answer, its words, a state, a vector file, data or a written sheet.
 #![forbid(unsafe_code)]
 
 use linked::{number_or, usage_error, Lent, Linked, Machine, Reference};
-use reference::case::Case;
+use reference::case::{target_bytes, Case, Job};
 use reference::generate::{all_cases, Rng};
+use reference::generate_marks::mark_cases;
 use reference::isa::ENDPRG;
 use reference::table::{Table, NOP};
 use reference::{run, saved, Refusal};
@@ -91,6 +92,8 @@ enum Call<'a> {
     Step,
     Run(u32),
     Release,
+    Mark(&'a [u8], &'a [u8]),
+    WriteSheet(&'a [u8]),
 }
 
 impl Call<'_> {
@@ -100,6 +103,16 @@ impl Call<'_> {
             Call::Step => M::step(kernel, lent),
             Call::Run(budget) => M::run(kernel, budget, lent),
             Call::Release => M::release(&mut lent.state),
+            Call::Mark(card, sheet) => M::mark(card, kernel, sheet, lent),
+            Call::WriteSheet(card) => M::write_sheet(card, kernel, lent),
+        }
+    }
+
+    /// For a message: a sheet is too long for one.
+    fn shown(&self) -> String {
+        match self {
+            Call::Mark(card, sheet) => format!("Mark({card:?}, {} bytes)", sheet.len()),
+            other => format!("{other:?}"),
         }
     }
 
@@ -109,6 +122,8 @@ impl Call<'_> {
             Call::Step => "step",
             Call::Run(_) => "run",
             Call::Release => "release",
+            Call::Mark(..) => "mark",
+            Call::WriteSheet(_) => "written sheet",
         }
     }
 }
@@ -125,8 +140,8 @@ impl Pair {
         Pair { reference: lent.clone(), linked: lent }
     }
 
-    fn set_steps(&mut self, steps: Vec<u32>) {
-        (self.linked.steps, self.reference.steps) = (steps.clone(), steps);
+    fn set_words(&mut self, words: Vec<u32>) {
+        (self.linked.words, self.reference.words) = (words.clone(), words);
     }
 }
 
@@ -170,20 +185,24 @@ impl Round<'_> {
         for (n, case) in all_cases(self.number).iter().enumerate() {
             self.case(case).map_err(|what| format!("case {n}: {what}"))?;
         }
+        for (n, case) in mark_cases(self.number).iter().enumerate() {
+            self.case(case).map_err(|what| format!("marking case {n}: {what}"))?;
+        }
         self.decode_words()
     }
 
     fn case(&mut self, case: &Case) -> Result<(), String> {
         match case {
-            Case::Launch { card, kernel, data, vector, budget, .. } => {
-                self.launch(card, &kernel.build(), vector.build(), data.build(), *budget)
+            Case::Launch { job, budget, .. } => {
+                let (kernel, vector, data) = job.build();
+                self.launch(&job.card, &kernel, vector, data, *budget)
             }
             Case::State { state, kernel, data, vector, budget } => {
                 let pair = self.pair(state.clone(), vector.build(), data.build());
                 self.run_and_step(&kernel.build(), pair, *budget)
             }
             Case::CardRead { card } => {
-                let vector = (0..run::VECTOR_WORDS).map(|_| self.rng.word()).collect();
+                let vector = self.words(run::VECTOR_WORDS as u32);
                 self.launch(card, &[NOP, ENDPRG], vector, vec![0; 8], 3)
             }
             Case::Release { state } => {
@@ -192,11 +211,46 @@ impl Round<'_> {
             }
             // No call writes a card.
             Case::CardWrite { .. } => Ok(()),
+            Case::Mark { job, sheet, result } => self.mark(job, sheet, *result).map(|_| ()),
+            Case::Sheet { job, target, written } => self.write_sheet(job, *target, *written),
         }
     }
 
     fn pair(&mut self, state: Vec<u32>, vector: Vec<u32>, data: Vec<u8>) -> Pair {
-        Pair::of(Lent { state, vector, data, steps: vec![self.rng.word()] })
+        Pair::of(Lent { state, vector, data, words: self.words(1), target: vec![] })
+    }
+
+    /// What the words of an answer hold before it.
+    fn words(&mut self, count: u32) -> Vec<u32> {
+        (0..count).map(|_| self.rng.word()).collect()
+    }
+
+    /// Marks the sheet: the result's words.
+    fn mark(&mut self, job: &Job, sheet: &[u8], result: u32) -> Result<Vec<u32>, String> {
+        let (kernel, vector, data) = job.build();
+        let mut pair = self.pair(vec![], vector, data);
+        pair.set_words(self.words(result));
+        if self.both(&Call::Mark(&job.card, sheet), &kernel, &mut pair)? == 0 {
+            self.seen.count("result of a mark", pair.linked.words[0]);
+        }
+        Ok(pair.linked.words)
+    }
+
+    /// Writes the run's own sheet, which must then have full marks.
+    fn write_sheet(&mut self, job: &Job, target: u32, written: u32) -> Result<(), String> {
+        let (kernel, vector, data) = job.build();
+        let mut pair = self.pair(vec![], vector, data);
+        pair.set_words(self.words(written));
+        let target = target_bytes(target);
+        (pair.linked.target, pair.reference.target) = (target.clone(), target);
+        if self.both(&Call::WriteSheet(&job.card), &kernel, &mut pair)? != 0 {
+            return Ok(());
+        }
+        let Lent { words, target, .. } = pair.linked;
+        match self.mark(job, &target[..words[0] as usize], 2)?[..] {
+            [1, 0] => Ok(()),
+            ref other => Err(format!("the library marks its own sheet {other:?}")),
+        }
     }
 
     /// Makes the call on both machines and compares all that they leave.
@@ -208,7 +262,8 @@ impl Round<'_> {
             return Ok(ours);
         }
         let left = first_difference(&pair.linked, &pair.reference);
-        Err(format!("{call:?}: answer {ours} against the reference's {theirs}; {left}"))
+        let call = call.shown();
+        Err(format!("{call}: answer {ours} against the reference's {theirs}; {left}"))
     }
 
     /// Launches into a state of any words, seldom of another length, and goes on from there.
@@ -222,7 +277,7 @@ impl Round<'_> {
     ) -> Result<(), String> {
         let words =
             if self.rng.chance(16) { self.rng.pick(&[0, 1, 206, 208]) } else { saved::WORDS };
-        let state = (0..words).map(|_| self.rng.word()).collect();
+        let state = self.words(words as u32);
         let mut pair = self.pair(state, vector, data);
         match self.both(&Call::Launch(card), kernel, &mut pair)? {
             0 => self.run_and_step(kernel, pair, budget),
@@ -238,7 +293,7 @@ impl Round<'_> {
         }
         self.advance(kernel, &mut whole, budget, Call::Run)?;
         self.advance(kernel, &mut single, budget, |_| Call::Step)?;
-        single.set_steps(whole.linked.steps.clone());
+        single.set_words(whole.linked.words.clone());
         if whole.linked != single.linked {
             let left = first_difference(&whole.linked, &single.linked);
             return Err(format!("the library's run against its own single steps: {left}"));
@@ -249,10 +304,10 @@ impl Round<'_> {
     /// A run whose count has not exactly one word's room.
     fn refuse_count(&mut self, kernel: &[u32], pair: &mut Pair, budget: u32) -> Result<(), String> {
         let room = self.rng.pick(&[0, 2, 3]);
-        let one = pair.linked.steps.clone();
-        pair.set_steps((0..room).map(|_| self.rng.word()).collect());
+        let one = pair.linked.words.clone();
+        pair.set_words(self.words(room));
         self.both(&Call::Run(budget), kernel, pair)?;
-        pair.set_steps(one);
+        pair.set_words(one);
         Ok(())
     }
 
@@ -272,7 +327,7 @@ impl Round<'_> {
             }
             let code = self.both(&call, kernel, pair)?;
             let taken = match call {
-                Call::Run(_) => pair.linked.steps[0],
+                Call::Run(_) => pair.linked.words[0],
                 _ => u32::from(code == 0),
             };
             self.seen.steps += u64::from(taken);
@@ -306,7 +361,8 @@ fn first_difference(ours: &Lent, theirs: &Lent) -> String {
         first_place("state word", &ours.state, &theirs.state),
         first_place("vector word", &ours.vector, &theirs.vector),
         first_place("data byte", &ours.data, &theirs.data),
-        first_place("count word", &ours.steps, &theirs.steps),
+        first_place("word of the answer", &ours.words, &theirs.words),
+        first_place("target byte", &ours.target, &theirs.target),
     ];
     places.into_iter().flatten().collect::<Vec<_>>().join("; ")
 }

@@ -2,11 +2,15 @@
 //!
 //! `cases make FILE` writes the generated case file (statistics on stderr);
 //! `cases check FILE` fails unless the file is what `make` makes;
+//! `cases make-marks FILE` and `cases check-marks FILE` do the same with the marking cases;
 //! `cases answer FILE...` prints the reference's answers to case files, one
 //! file after the other.
 
+mod mark_statistics;
+
 use reference::case::{evaluate, read_file, write_file, Answer, Case};
 use reference::generate::{all_cases, low_mask};
+use reference::generate_marks::mark_cases;
 use reference::isa::{decode, Insn, Space};
 use reference::state::{Warp, LANES};
 use reference::table::{name, variants};
@@ -16,14 +20,18 @@ use std::process::ExitCode;
 
 const USAGE: &str = "usage: cases make FILE
        cases check FILE
+       cases make-marks FILE
+       cases check-marks FILE
        cases answer FILE...";
 
 fn main() -> ExitCode {
     let args: Vec<String> = std::env::args().skip(1).collect();
     let args: Vec<&str> = args.iter().map(String::as_str).collect();
     let done = match args[..] {
-        ["make", file] => std::fs::write(file, make()).map_err(|error| format!("{file}: {error}")),
-        ["check", file] => check(file),
+        ["make", file] => GENERATED.write(file),
+        ["check", file] => GENERATED.check(file),
+        ["make-marks", file] => MARKS.write(file),
+        ["check-marks", file] => MARKS.check(file),
         ["answer", ref files @ ..] if !files.is_empty() => answer(files),
         _ => {
             eprintln!("{USAGE}");
@@ -47,17 +55,40 @@ fn cases(file: &str, bytes: &[u8]) -> Result<Vec<Case>, String> {
     read_file(bytes).ok_or_else(|| format!("{file}: not a case file"))
 }
 
-fn check(file: &str) -> Result<(), String> {
-    let bytes = read(file)?;
-    let stored = cases(file, &bytes)?;
-    if bytes == make() {
-        return Ok(());
+/// A case file that is made here.
+struct Made {
+    cases: fn(u32) -> Vec<Case>,
+    statistics: fn(&[Case], usize),
+}
+
+const GENERATED: Made = Made { cases: all_cases, statistics };
+const MARKS: Made = Made { cases: mark_cases, statistics: mark_statistics::statistics };
+
+impl Made {
+    fn make(&self) -> Vec<u8> {
+        let cases = (self.cases)(0);
+        let file = write_file(&cases);
+        assert_eq!(read_file(&file).as_ref(), Some(&cases), "the file does not read back");
+        (self.statistics)(&cases, file.len());
+        file
     }
-    let differs = stored.iter().zip(&all_cases(0)).position(|(a, b)| a != b);
-    Err(match differs {
-        Some(n) => format!("{file}: differs from what is made here, first in case {n}"),
-        None => format!("{file}: differs from what is made here, after {} cases", stored.len()),
-    })
+
+    fn write(&self, file: &str) -> Result<(), String> {
+        std::fs::write(file, self.make()).map_err(|error| format!("{file}: {error}"))
+    }
+
+    fn check(&self, file: &str) -> Result<(), String> {
+        let bytes = read(file)?;
+        let stored = cases(file, &bytes)?;
+        if bytes == self.make() {
+            return Ok(());
+        }
+        let differs = stored.iter().zip(&(self.cases)(0)).position(|(a, b)| a != b);
+        Err(match differs {
+            Some(n) => format!("{file}: differs from what is made here, first in case {n}"),
+            None => format!("{file}: differs from what is made here, after {} cases", stored.len()),
+        })
+    }
 }
 
 /// Nothing is printed where one of the files cannot be read.
@@ -68,14 +99,6 @@ fn answer(files: &[&str]) -> Result<(), String> {
     };
     print!("{}", files.iter().map(answers).collect::<Result<String, String>>()?);
     Ok(())
-}
-
-fn make() -> Vec<u8> {
-    let cases = all_cases(0);
-    let file = write_file(&cases);
-    assert_eq!(read_file(&file).as_ref(), Some(&cases), "the file does not read back");
-    statistics(&cases, file.len());
-    file
 }
 
 // Statistics.
@@ -105,7 +128,7 @@ impl Stats {
         data: &mut [u8],
         answer: &Answer,
     ) {
-        for _ in 0..answer.steps {
+        for _ in 0..answer.steps() {
             let before = warp.clone();
             let insn = exec::fetch(&warp, kernel).and_then(decode).expect("a word that was taken");
             self.count_private(&insn, &warp, vector, data, 0);
@@ -161,12 +184,12 @@ impl Stats {
     fn count(&mut self, case: &Case) {
         let answer = evaluate(case);
         *self.codes.entry(answer.code).or_default() += 1;
-        self.steps += u64::from(answer.steps);
-        self.longest = self.longest.max(answer.steps);
+        self.steps += u64::from(answer.steps());
+        self.longest = self.longest.max(answer.steps());
         let kind = match case {
-            Case::Launch { card, kernel, data, vector, .. } => {
-                let (kernel, mut data, mut vector) = (kernel.build(), data.build(), vector.build());
-                if let Ok(launch) = card::read(card) {
+            Case::Launch { job, .. } => {
+                let (kernel, mut vector, mut data) = job.build();
+                if let Ok(launch) = card::read(&job.card) {
                     let (code, warp) = run::launch(&launch, &kernel, &mut vector, &data);
                     if code == 0 {
                         self.trace(warp, &kernel, &mut vector, &mut data, &answer);
@@ -185,6 +208,8 @@ impl Stats {
             Case::CardRead { .. } => "card read",
             Case::Release { .. } => "release",
             Case::CardWrite { .. } => "card write",
+            Case::Mark { .. } => "mark",
+            Case::Sheet { .. } => "sheet",
         };
         *self.kinds.entry(kind).or_default() += 1;
     }

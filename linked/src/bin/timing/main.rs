@@ -1,26 +1,32 @@
 //! Times the proved library's calls against the reference's, the two taking turns.
 #![forbid(unsafe_code)]
 
+mod class;
+
 use linked::kernels::{subjects, Call, Subject, CODE_BASE, DATA_BASE, DATA_BYTES};
 use linked::{number_or, usage_error, Lent, Linked, Machine, Reference};
+use reference::generate::card_of;
 use reference::state::{Fixed, Launch};
-use reference::{card, run, saved, Refusal};
+use reference::{run, saved, Refusal};
 use std::process::ExitCode;
 use std::time::Instant;
 
-const USAGE: &str = "usage: timing [REPETITIONS]
-    REPETITIONS  how often each machine runs each kernel, 1 to 65535; 201 if not given";
+const USAGE: &str = "usage: timing [REPETITIONS], or timing class [REPETITIONS]
+    REPETITIONS  how often each machine runs each kernel, 1 to 65535; 201 if not given
+    class        mark a class's sheets instead";
 
 /// The part of the times that the ratio is taken at: what a run takes when little disturbs it.
 const LOW: usize = 5;
 
 fn main() -> ExitCode {
-    let mut arguments = std::env::args().skip(1);
+    let mut arguments = std::env::args().skip(1).peekable();
+    let class = arguments.next_if(|first| first == "class").is_some();
     let repetitions = number_or::<u16>(arguments.next(), "REPETITIONS", 201);
     match (repetitions, arguments.next()) {
         (Ok(0), _) => usage_error("REPETITIONS is 0", USAGE),
         (Ok(_), Some(_)) => usage_error("too many arguments", USAGE),
         (Err(wrong), _) => usage_error(&wrong, USAGE),
+        (Ok(repetitions), None) if class => class::report(repetitions),
         (Ok(repetitions), None) => report(repetitions),
     }
 }
@@ -34,7 +40,9 @@ fn report(repetitions: u16) -> ExitCode {
         let launched = launched(subject);
         match equal_ends(subject, &launched) {
             Some(steps) => {
-                println!("{}", line(subject, steps, measure(subject, &launched, repetitions)))
+                let ours = || timed::<Linked>(subject, &launched).2;
+                let theirs = || timed::<Reference>(subject, &launched).2;
+                println!("{}", line(subject, steps, &measure(repetitions, ours, theirs)))
             }
             None => {
                 println!("{}: the two machines end apart; see compare", subject.name);
@@ -45,26 +53,18 @@ fn report(repetitions: u16) -> ExitCode {
     ExitCode::SUCCESS
 }
 
-/// A line of the table, from the sorted times of the library and of the reference.
-fn line(subject: &Subject, steps: u32, (ours, theirs): (Vec<f64>, Vec<f64>)) -> String {
-    let step = |times: &[f64], percent: usize| percentile(times, percent) / f64::from(steps);
+fn line(subject: &Subject, steps: u32, times: &Timed) -> String {
+    let [ours, our_median, theirs, their_median] =
+        times.low_and_median().map(|time| time / f64::from(steps));
     format!(
-        "| {:<12} | {steps:>6} | {:>7.2} | {:>7.2} | {:>9.2} | {:>7.2} | {:>5.3} |",
+        "| {:<12} | {steps:>6} | {ours:>7.2} | {our_median:>7.2} | {theirs:>9.2} | {their_median:>7.2} | {:>5.3} |",
         subject.name,
-        step(&ours, LOW),
-        step(&ours, 50),
-        step(&theirs, LOW),
-        step(&theirs, 50),
-        percentile(&ours, LOW) / percentile(&theirs, LOW)
+        times.ratio()
     )
 }
 
-fn percentile(sorted: &[f64], percent: usize) -> f64 {
-    sorted[(sorted.len() - 1) * percent / 100]
-}
-
 /// A warp of 32 lanes, those of the mask launched, at the kernel's first word.
-fn launched(subject: &Subject) -> Lent {
+fn card_bytes(subject: &Subject) -> Vec<u8> {
     let fixed = Fixed {
         numt: 32,
         numw: 1,
@@ -73,15 +73,24 @@ fn launched(subject: &Subject) -> Lent {
         data_base: DATA_BASE,
         ..Fixed::default()
     };
-    let mut bytes = [0; card::CARD];
-    card::write(&Launch { fixed, entry: CODE_BASE }, &mut bytes).expect("a launch in range");
-    let mut lent = Lent {
+    card_of(&Launch { fixed, entry: CODE_BASE })
+}
+
+/// What is lent to a launch.
+fn unlaunched() -> Lent {
+    Lent {
         state: vec![0; saved::WORDS],
         vector: vec![0; run::VECTOR_WORDS],
         data: vec![0; DATA_BYTES],
-        steps: vec![0],
-    };
-    assert_eq!(Linked::launch(&bytes, &subject.kernel, &mut lent), 0, "the launch is refused");
+        words: vec![0],
+        target: vec![],
+    }
+}
+
+fn launched(subject: &Subject) -> Lent {
+    let mut lent = unlaunched();
+    let code = Linked::launch(&card_bytes(subject), &subject.kernel, &mut lent);
+    assert_eq!(code, 0, "the launch is refused");
     lent
 }
 
@@ -104,7 +113,7 @@ fn step_by_step<M: Machine>(kernel: &[u32], lent: &mut Lent) -> u32 {
         if code != 0 {
             return code;
         }
-        lent.steps[0] += 1;
+        lent.words[0] += 1;
     }
 }
 
@@ -113,22 +122,45 @@ fn equal_ends(subject: &Subject, launched: &Lent) -> Option<u32> {
     let (code, ours, _) = timed::<Linked>(subject, launched);
     let (their_code, theirs, _) = timed::<Reference>(subject, launched);
     let ended = code == Refusal::Ended.number() && code == their_code;
-    (ended && ours == theirs).then(|| ours.steps[0])
+    (ended && ours == theirs).then(|| ours.words[0])
 }
 
-/// The sorted times of the library and of the reference, who begin in turn.
-fn measure(subject: &Subject, launched: &Lent, repetitions: u16) -> (Vec<f64>, Vec<f64>) {
-    let (mut ours, mut theirs) = (Vec::new(), Vec::new());
+/// The sorted times of the library and of the reference.
+struct Timed {
+    ours: Vec<f64>,
+    theirs: Vec<f64>,
+}
+
+/// The two begin in turn.
+fn measure(repetitions: u16, ours: impl Fn() -> f64, theirs: impl Fn() -> f64) -> Timed {
+    let mut times = Timed { ours: Vec::new(), theirs: Vec::new() };
     for n in 0..repetitions {
         if n % 2 == 0 {
-            ours.push(timed::<Linked>(subject, launched).2);
-            theirs.push(timed::<Reference>(subject, launched).2);
+            times.ours.push(ours());
+            times.theirs.push(theirs());
         } else {
-            theirs.push(timed::<Reference>(subject, launched).2);
-            ours.push(timed::<Linked>(subject, launched).2);
+            times.theirs.push(theirs());
+            times.ours.push(ours());
         }
     }
-    ours.sort_by(f64::total_cmp);
-    theirs.sort_by(f64::total_cmp);
-    (ours, theirs)
+    times.ours.sort_by(f64::total_cmp);
+    times.theirs.sort_by(f64::total_cmp);
+    times
+}
+
+impl Timed {
+    /// The library's time at `LOW` percent and its median, then the reference's.
+    fn low_and_median(&self) -> [f64; 4] {
+        let Timed { ours, theirs } = self;
+        [(ours, LOW), (ours, 50), (theirs, LOW), (theirs, 50)]
+            .map(|(times, percent)| percentile(times, percent))
+    }
+
+    fn ratio(&self) -> f64 {
+        percentile(&self.ours, LOW) / percentile(&self.theirs, LOW)
+    }
+}
+
+fn percentile(sorted: &[f64], percent: usize) -> f64 {
+    sorted[(sorted.len() - 1) * percent / 100]
 }
