@@ -5,7 +5,6 @@ use mathlib.Core.List.{List, [], _∷_, _++_, flatten, append-nil}
 use native.Mathlib.Omega.{arith}
 use lib.ListN.{length, getD, length-append}
 use lib.Seq.{sets, append-snoc}
-use borrow.Author.Tests.{eq-eqb, ne-eqb}
 use Rattle.text.proofs.Laws.{sets-append}
 use Rattle.big_endian.specs.Layout.{bytesOf}
 use Rattle.definition.specs.State.{State, Outcome, placeOf}
@@ -15,7 +14,7 @@ use Rattle.definition.proofs.Target.{step-within}
 use Rattle.definition.proofs.Calls.{steps-end, steps-on, steps-stop, run-counted}
 use Rattle.sheet_lines.specs.Sheet.{headSize, lineSize, stepLimit, lineValues, lineOf, linesOf}
 use Rattle.sheet.specs.Traces.{Traces}
-use Rattle.sheet_lines.proofs.Lines.{Lines, flatten-length, flatten-append, line-length, line-is}
+use Rattle.sheet_lines.proofs.Lines.{Lines, flatten-length, flatten-append, line-length, line-is, lines-taken, lines-refused}
 
 lines-snoc : (ls : List (List ℕ)) (a : List ℕ) → Lines ls → length a ≡ lineSize → Lines (ls ++ (a ∷ []))
 lines-snoc [] a h e = (e, record {})
@@ -48,12 +47,10 @@ module _ (k : List ℕ) (n : ℕ) (m : State) where
     more = omega arith
 
     pub lines-on : stepOf k m .code ≡ 0 → linesOf k (stepLimit - n) m ≡ lineOf k m (stepOf k m .left) ∷ linesOf k (stepLimit - (n + 1)) (stepOf k m .left)
-    unfolding linesOf
-    lines-on z = rw (more, eq-eqb _ _ z)
+    lines-on z = rw more (lines-taken k (stepLimit - (n + 1)) m z)
 
     lines-stop : (stepOf k m .code ≡ 0 → ⊥) → linesOf k (stepLimit - n) m ≡ []
-    unfolding linesOf
-    lines-stop z = rw (more, ne-eqb _ _ z)
+    lines-stop z = rw more (lines-refused k (stepLimit - (n + 1)) m z)
 
 module _ (k : List ℕ) (a b : State) (n : ℕ) (t u : List ℕ) (r : Tracing k a b n t u) where
   -- where the rest of the lines is empty, and the rest of the run leaves what q does

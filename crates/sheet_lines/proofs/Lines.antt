@@ -7,6 +7,7 @@ use native.Mathlib.Omega.{arith}
 use lib.Dec.{eqb}
 use lib.ListN.{length, getD, take, drop, length-append}
 use lib.Seq.{take-at, drop-append-seam}
+use borrow.Author.Tests.{eq-eqb, ne-eqb}
 use Rattle.big_endian.specs.Layout.{bytesOf}
 use Rattle.big_endian.proofs.LayoutLaws.{layout-length}
 use Rattle.definition.specs.State.{State, placeOf}
@@ -50,6 +51,15 @@ line-length k m n = layout-length (lineValues _ _ _ _)
 pub line-is : (k : List ℕ) (m n : State) (w : ℕ) → w ≡ getD k (placeOf (m .warp)) 0 → bytesOf (lineValues (m .warp .pc) w (n .warp .mask) (n .warp .depth)) ≡ lineOf k m n
 unfolding lineOf
 line-is k m n w e = rw e
+
+module _ (k : List ℕ) (n : ℕ) (m : State) where
+  pub lines-taken : stepOf k m .code ≡ 0 → linesOf k (suc n) m ≡ lineOf k m (stepOf k m .left) ∷ linesOf k n (stepOf k m .left)
+  unfolding linesOf
+  lines-taken z = rw (eq-eqb _ _ z)
+
+  pub lines-refused : (stepOf k m .code ≡ 0 → ⊥) → linesOf k (suc n) m ≡ []
+  unfolding linesOf
+  lines-refused z = rw (ne-eqb _ _ z)
 
 pub own-lines : (k : List ℕ) (n : ℕ) (m : State) → Lines (linesOf k n m)
 unfolding linesOf

@@ -1,0 +1,5 @@
+pub mod Sheets
+pub mod RoundTrip
+pub mod Compares
+pub mod Marks
+pub mod Calls

@@ -1,0 +1,3 @@
+pub mod Sheets
+pub mod Marks
+pub mod Calls
