@@ -289,7 +289,7 @@ pub fn mixed_bytes(h: u32, bytes: &[u8]) -> u32 {
     sum
 }
 
-// A vector file and data, which every run's digest ends with.
+// What a run leaves in vector file and data, the end of most digests.
 pub fn mixed_lent(h: u32, vector: &[u32], bytes: &[u8]) -> u32 {
     mixed_bytes(mixed_words(h, vector), bytes)
 }
