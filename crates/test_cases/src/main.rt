@@ -30,10 +30,7 @@ fn run_digest(kind: Kind, state: &[u32], vector: &[u32], bytes: &[u8]) -> u32 {
     match kind {
         Kind::ChecksItself => if 3 < state.len() { state[3] } else { 0 },
         Kind::DataOnly => test_io::mixed_bytes(test_io::DIGEST, bytes),
-        _ => test_io::mixed_bytes(
-            test_io::mixed_words(test_io::mixed_words(test_io::DIGEST, state), vector),
-            bytes,
-        ),
+        _ => test_io::mixed_lent(test_io::mixed_words(test_io::DIGEST, state), vector, bytes),
     }
 }
 

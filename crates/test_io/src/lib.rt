@@ -59,7 +59,7 @@ pub fn vector_room() -> [u32; 1056]
     [0; 1056]
 }
 
-fn words_in(buffer: &[u32], n: u32) -> usize
+pub fn words_in(buffer: &[u32], n: u32) -> usize
     ensures { λ r. ⌜ Counts r (now (buffer .entry)) ⌝ }
 {
     let most = buffer.len();
@@ -289,9 +289,14 @@ pub fn mixed_bytes(h: u32, bytes: &[u8]) -> u32 {
     sum
 }
 
+// What a run leaves in vector file and data, the end of most digests.
+pub fn mixed_lent(h: u32, vector: &[u32], bytes: &[u8]) -> u32 {
+    mixed_bytes(mixed_words(h, vector), bytes)
+}
+
 // ---- a line
 
-fn put_decimal(n: u32) {
+pub fn put_decimal(n: u32) {
     io::print_decimal(libc::STDOUT_FILENO, n as u64);
     io::write_all(libc::STDOUT_FILENO, b" ");
 }
@@ -301,6 +306,11 @@ fn put_hex(n: u32, after: &[u8]) {
     io::write_all(libc::STDOUT_FILENO, after);
 }
 
+// A line's last field, which ends it.
+pub fn put_last(n: u32) {
+    put_hex(n, b"\n");
+}
+
 pub fn put_line(number: u32, code: u32, steps: u32, pc: u32, mask: u32, splits: u32, last: u32) {
     put_decimal(number);
     put_decimal(code);
@@ -308,7 +318,7 @@ pub fn put_line(number: u32, code: u32, steps: u32, pc: u32, mask: u32, splits: 
     put_hex(pc, b" ");
     put_hex(mask, b" ");
     put_decimal(splits);
-    put_hex(last, b"\n");
+    put_last(last);
 }
 
 pub fn put_state_line(number: u32, code: u32, steps: u32, state: &[u32], last: u32) {
