@@ -1,9 +1,9 @@
 // Every call's answer: done, or why it was refused, and the number of each.
 ghost use mathlib.Core.Path.{_≡_};
 ghost use Prim.Native.Nat.{_≤_};
-ghost use Rattle.answer.specs.Answer.{refusalOf, numberOf, lastNumber};
+ghost use Rattle.answer.specs.Answer.{refusalOf, numberOf, lastStepNumber};
 
-// Why a call was refused: 1 to 14 in this order.
+// Why a call was refused: 1 to 14, then 16 and 17, in this order.
 pub enum Refusal {
     Size,
     Malformed,
@@ -19,6 +19,8 @@ pub enum Refusal {
     NotWaiting,
     BadCard,
     Crossing,
+    BadSheet,
+    NoSteps,
 }
 
 pub enum Answer {
@@ -57,6 +59,10 @@ pub const BAD_CARD: u32 = 13;
 
 pub const CROSSING: u32 = 14;
 
+pub const BAD_SHEET: u32 = 16;
+
+pub const NO_STEPS: u32 = 17;
+
 fn refusal_number(r: Refusal) -> u32
     ensures { λ n. ⌜ n ≡ refusalOf r ⌝ }
 {
@@ -75,6 +81,8 @@ fn refusal_number(r: Refusal) -> u32
         Refusal::NotWaiting => NOT_WAITING,
         Refusal::BadCard => BAD_CARD,
         Refusal::Crossing => CROSSING,
+        Refusal::BadSheet => BAD_SHEET,
+        Refusal::NoSteps => NO_STEPS,
     }
 }
 
@@ -87,9 +95,9 @@ pub fn number(a: Answer) -> u32
     }
 }
 
-// The answer that has the number.
+// The answer that has the number, of those that a step or a run can answer.
 pub fn answer_of(code: u32) -> Answer
-    requires { ⌜ code ≤ lastNumber ⌝ }
+    requires { ⌜ code ≤ lastStepNumber ⌝ }
     ensures { λ r. ⌜ numberOf r ≡ code ⌝ }
 {
     match code {

@@ -8,7 +8,7 @@ use lib.Dec.{leb}
 use lib.ListN.{take}
 use borrow.Author.Tests.{leb-true, ne-eqb}
 use Rattle.answer.specs.Rows.{Row, _⇒_, first, oneOf, Iff}
-use Rattle.answer.specs.Answer.{lastNumber}
+use Rattle.answer.specs.Answer.{lastStepNumber}
 use Rattle.answer.proofs.Rows.{both, silent, without, numbered, row-answers, numbered-first, numbered-without, numbered-under, one-holds}
 use Rattle.isa.specs.declared.Instr.{Instr}
 use Rattle.isa.specs.declared.Instr.the-variants as I
@@ -72,8 +72,8 @@ step-known k m =
     numbered-first (oneOf (0 ∷ stepNumbers)) (testsOf k m) refl
     (numbered-under isOwn (oneOf (0 ∷ stepNumbers)) (λ n h. rw (both (leb 6 n) (oneOf stepNumbers n) h .1, or-true)) (refusalsOf (instrAt k m) m) (rows-numbered (instrAt k m) m))
 
-pub step-last : (k : List ℕ) (m : State) → stepOf k m .code ≤ lastNumber
-step-last k m = leb-true _ _ (one-holds (λ n. leb n lastNumber) (0 ∷ stepNumbers) refl (stepOf k m .code) (step-known k m))
+pub step-last : (k : List ℕ) (m : State) → stepOf k m .code ≤ lastStepNumber
+step-last k m = leb-true _ _ (one-holds (λ n. leb n lastStepNumber) (0 ∷ stepNumbers) refl (stepOf k m .code) (step-known k m))
 
 -- An access by lanes that crosses a word boundary is refused for that, wherever its lanes' accesses lie.
 pub crosses-first : (s : Space) (n : ℕ) (a : VReg) (off : ℕ) (m : State) → someCrosses s n a off m ≡ true → first (accessTests s n a off m) ≡ 14

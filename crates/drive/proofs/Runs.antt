@@ -7,7 +7,7 @@ use native.Mathlib.Omega.{arith}
 use native.Mathlib.Nat.{sub-zero}
 use lib.Dec.{lit≤}
 use lib.ListN.{length}
-use Rattle.answer.specs.Answer.{lastNumber}
+use Rattle.answer.specs.Answer.{lastStepNumber}
 use Rattle.answer.proofs.Rows.{both}
 use Rattle.warp.specs.WellFormed.{wellFormedOf}
 use Rattle.warp.specs.Facts.{Formed}
@@ -102,7 +102,7 @@ unfolding runWordsOf
 run-sound k n a o = rw o
 
 module _ (k : List ℕ) (n : ℕ) (a : Lists) (lh : length (a .moving) ≡ movingCount) (ls : length (a .splits) ≡ flatCount) where
-  refused : (c : ℕ) → c ≤ lastNumber → ran 0 (outcome c (lentState a)) ≡ runWordsOf k n a → RunsWords k n c 0 a a
+  refused : (c : ℕ) → c ≤ lastStepNumber → ran 0 (outcome c (lentState a)) ≡ runWordsOf k n a → RunsWords k n c 0 a a
   refused c h e = record { known = h; long = lh; room = ls; sound = λ o. o; kept = λ o. refl; runs = e }
 
   pub words-size : runsOkOf (fixedIn (a .fixed)) k (a .vector) (a .bytes) ≡ false → RunsWords k n 1 0 a a

@@ -4,7 +4,7 @@ use mathlib.Core.Path.{_≡_}
 use mathlib.Core.Bool.{true, false, cond}
 use mathlib.Core.List.{List}
 use lib.ListN.{length}
-use Rattle.answer.specs.Answer.{lastNumber}
+use Rattle.answer.specs.Answer.{lastStepNumber}
 use Rattle.layout.specs.Words.{movingCount, flatCount, fixedIn, soundOf}
 use Rattle.definition.specs.State.{outcome}
 use Rattle.definition.specs.Refuse.{runsOkOf}
@@ -13,7 +13,7 @@ use Rattle.handlers.specs.Handles.{Lists, lentState}
 
 -- at most n steps from the words of a well-formed warp: t are taken, and the last one's number is c
 pub record Drives (k : List ℕ) (n c t : ℕ) (a b : Lists) : Type 0 where
-  pub known : c ≤ lastNumber
+  pub known : c ≤ lastStepNumber
   pub long : length (b .moving) ≡ movingCount
   pub room : length (b .splits) ≡ flatCount
   pub sound : soundOf (b .moving) (b .splits) ≡ true
@@ -27,7 +27,7 @@ runWordsOf k n a =
 
 -- a warp's words stay a warp's, others are left as they are
 pub record RunsWords (k : List ℕ) (n c t : ℕ) (a b : Lists) : Type 0 where
-  pub known : c ≤ lastNumber
+  pub known : c ≤ lastStepNumber
   pub long : length (b .moving) ≡ movingCount
   pub room : length (b .splits) ≡ flatCount
   pub sound : soundOf (a .moving) (a .splits) ≡ true → soundOf (b .moving) (b .splits) ≡ true

@@ -1,0 +1,127 @@
+-- Marking a sheet, and writing the model sheet: what the two calls answer and leave.
+use Prim.Native.Nat.{ℕ, _+_}
+use mathlib.Core.Bool.{Bool, true, false, not, _&&_, cond}
+use mathlib.Core.List.{List, [], _∷_, _++_}
+use lib.Dec.{eqb, leb}
+use lib.ListN.{length}
+use lib.Seq.{sets}
+use Rattle.answer.specs.Rows.{Row, _⇒_, first}
+use Rattle.warp.specs.declared.Launch.{Launch}
+use Rattle.definition.specs.State.{State}
+use Rattle.definition.specs.Refuse.{launchTests}
+use Rattle.definition.specs.Calls.{launchOf, runOf}
+use Rattle.sheet.specs.declared.Marks.{Marks}
+use Rattle.sheet.specs.declared.Marks.the-variants.{NoMarks, Full, Differs, Short, Long}
+use Rattle.sheet.specs.Sheet.{stepLimit, sizeOf, linesOf, sheetOf, sheetOkOf, linesIn}
+
+-- ---- marks
+
+-- their number, and the differing step
+abbrev pub marksNumber : Marks → ℕ
+marksNumber NoMarks = 0
+marksNumber Full = 1
+marksNumber (Differs n) = 2
+marksNumber Short = 3
+marksNumber Long = 4
+
+abbrev pub marksStep : Marks → ℕ
+marksStep NoMarks = 0
+marksStep Full = 0
+marksStep (Differs n) = n
+marksStep Short = 0
+marksStep Long = 0
+
+-- two lines, byte by byte
+abbrev pub sameOf : List ℕ → List ℕ → Bool
+sameOf [] [] = true
+sameOf (x ∷ a) [] = false
+sameOf [] (y ∷ b) = false
+sameOf (x ∷ a) (y ∷ b) = eqb x y && sameOf a b
+
+-- the run's own lines, and those on the sheet; the first of each is step i
+unfoldable pub compareOf : ℕ → List (List ℕ) → List (List ℕ) → Marks
+compareOf i [] [] = Full
+compareOf i (a ∷ own) [] = Short
+compareOf i [] (b ∷ given) = Long
+compareOf i (a ∷ own) (b ∷ given) = cond (sameOf a b) (compareOf (i + 1) own given) (Differs i)
+
+-- ---- the run that is marked: kernel k, launch l, vector file v, data memory d
+
+-- from the state that the launch leaves, to the first refusal or 4,096 steps
+abbrev pub startOf : List ℕ → Launch → List ℕ → List ℕ → State
+startOf k l v d = launchOf k l v d .left
+
+unfoldable pub ownOf : List ℕ → Launch → List ℕ → List ℕ → List (List ℕ)
+ownOf k l v d = linesOf k stepLimit (startOf k l v d)
+
+unfoldable pub endOf : List ℕ → Launch → List ℕ → List ℕ → State
+endOf k l v d = runOf k stepLimit (startOf k l v d) .ends .left
+
+-- a run of no steps is 17
+abbrev pub noSteps : List ℕ → Launch → List ℕ → List ℕ → Bool
+noSteps k l v d = eqb (length (ownOf k l v d)) 0
+
+-- vector file and data memory afterwards
+pub record Lent : Type 0 where
+  pub vector : List ℕ
+  pub bytes : List ℕ
+
+abbrev pub lent : List ℕ → List ℕ → Lent
+lent v d = record { vector = v; bytes = d }
+
+-- not refused: as the run leaves them; 17: as the launch does, the file cleared and the data as lent; any other refusal: as lent
+unfoldable pub lentOf : ℕ → List ℕ → Launch → List ℕ → List ℕ → Lent
+lentOf n k l v d =
+    let e : State = endOf k l v d in
+    let m : State = startOf k l v d in
+    cond (eqb n 0) (lent (e .vector) (e .bytes)) (cond (eqb n 17) (lent (m .vector) (m .bytes)) (lent v d))
+
+-- ---- marking a sheet s
+
+-- the number, the marks, how many steps the run has, and what is left
+pub record Marking : Type 0 where
+  pub number : ℕ
+  pub marks : Marks
+  pub steps : ℕ
+  pub left : Lent
+
+abbrev pub marking : ℕ → Marks → ℕ → Lent → Marking
+marking n a t e = record { number = n; marks = a; steps = t; left = e }
+
+abbrev pub markTests : List ℕ → Launch → List ℕ → List ℕ → List ℕ → List (Row Bool)
+markTests k l v d s = launchTests k l v d ++ (16 ⇒ not (sheetOkOf s) ∷ 17 ⇒ noSteps k l v d ∷ [])
+
+-- refused: no marks, no steps
+unfoldable pub markOf : List ℕ → Launch → List ℕ → List ℕ → List ℕ → Marking
+markOf k l v d s =
+    let n : ℕ = first (markTests k l v d s) in
+    let own : List (List ℕ) = ownOf k l v d in
+    let e : Lent = lentOf n k l v d in
+    cond (eqb n 0) (marking n (compareOf 1 own (linesIn s)) (length own) e) (marking n NoMarks 0 e)
+
+-- ---- the model sheet, into a target t
+
+-- the number, the bytes written, the target and what is left
+pub record Modelling : Type 0 where
+  pub number : ℕ
+  pub written : ℕ
+  pub target : List ℕ
+  pub left : Lent
+
+abbrev pub modelling : ℕ → ℕ → List ℕ → Lent → Modelling
+modelling n w t e = record { number = n; written = w; target = t; left = e }
+
+-- room for the largest sheet
+abbrev pub roomNeeded : ℕ
+roomNeeded = sizeOf stepLimit
+
+abbrev pub modelTests : List ℕ → Launch → List ℕ → List ℕ → List ℕ → List (Row Bool)
+modelTests k l v d t = launchTests k l v d ++ (1 ⇒ not (leb roomNeeded (length t)) ∷ 17 ⇒ noSteps k l v d ∷ [])
+
+-- refused: nothing is written; the bytes past the sheet stay
+unfoldable pub modelOf : List ℕ → Launch → List ℕ → List ℕ → List ℕ → Modelling
+modelOf k l v d t =
+    let n : ℕ = first (modelTests k l v d t) in
+    let s : List ℕ = sheetOf (ownOf k l v d) in
+    let e : Lent = lentOf n k l v d in
+    cond (eqb n 0) (modelling n (length s) (sets t 0 s) e) (modelling n 0 t e)
