@@ -1,6 +1,6 @@
 // The three files by name, and the printout to standard output. What the printout says is `printout`'s.
-use printout::DATA_BYTES;
-use printout::KERNEL_BYTES;
+use launch_files::DATA_BYTES;
+use launch_files::KERNEL_BYTES;
 use printout::ROOM;
 ghost use Rattle.io.specs.Counts.{Counts};
 
