@@ -40,7 +40,7 @@ values-bytes (_▹_ {w} {ws} x xs) f p =
 
 -- ---- the values put into a target one after another
 
-puts-sets : {ws : List ℕ} (xs : Values ws) (i : ℕ) (t : List ℕ) → putsAll xs i t ≡ sets t i (bytesOf xs)
+pub puts-sets : {ws : List ℕ} (xs : Values ws) (i : ℕ) (t : List ℕ) → putsAll xs i t ≡ sets t i (bytesOf xs)
 puts-sets end i t = refl
 puts-sets (_▹_ {w} x xs) i t =
     puts-sets xs (i + w) (sets t i (beBytes w x))

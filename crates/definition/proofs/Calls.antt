@@ -96,6 +96,19 @@ module _ (k : List ℕ) (n : ℕ) (m : State) where
     unfolding runOf
     run-steps b = rw (a, b)
 
+-- A run of one step or more is its steps: a step tests 1 and 2 too.
+module _ (k : List ℕ) (n : ℕ) (m : State) where
+  refused-first : (c : ℕ) → (c ≡ 0 → ⊥) → stepOf k m ≡ outcome c m → stepsOf k (suc n) 0 m ≡ ran 0 (outcome c m)
+  refused-first c z e = turn-off k n 0 m (λ h. z (sym (ap (λ (o : Outcome). o .code) e) ∙ h)) ∙ ap (ran 0) e
+
+  by-tests : (a b : Bool) → runsOkOf (fixedOf m) k (m .vector) (m .bytes) ≡ a → wellFormedOf (m .warp) ≡ b → runOf k (suc n) m ≡ stepsOf k (suc n) 0 m
+  by-tests false b p q = run-size k (suc n) m p ∙ sym (refused-first 1 (λ z. omega arith) (step-runs k m p))
+  by-tests true false p q = run-malformed k (suc n) m p q ∙ sym (refused-first 2 (λ z. omega arith) (step-malformed k m p q))
+  by-tests true true p q = run-steps k (suc n) m p q
+
+  pub run-counted : runOf k (suc n) m ≡ stepsOf k (suc n) 0 m
+  run-counted = by-tests (runsOkOf (fixedOf m) k (m .vector) (m .bytes)) (wellFormedOf (m .warp)) refl refl
+
 -- A run of one step is a step.
 module _ (k : List ℕ) (m : State) where
   as-step : (o : Outcome) (t : Bool) → eqb (o .code) 0 ≡ t → cond t (ran 1 (outcome 0 (o .left))) (ran 0 o) .ends ≡ o
@@ -106,10 +119,5 @@ module _ (k : List ℕ) (m : State) where
   unfolding stepsOf
   steps-one = as-step (stepOf k m) (eqb (stepOf k m .code) 0) refl
 
-  by-tests : (a b : Bool) → runsOkOf (fixedOf m) k (m .vector) (m .bytes) ≡ a → wellFormedOf (m .warp) ≡ b → runOf k 1 m .ends ≡ stepOf k m
-  by-tests false b p q = ap (λ (r : Ran). r .ends) (run-size k 1 m p) ∙ sym (step-runs k m p)
-  by-tests true false p q = ap (λ (r : Ran). r .ends) (run-malformed k 1 m p q) ∙ sym (step-malformed k m p q)
-  by-tests true true p q = ap (λ (r : Ran). r .ends) (run-steps k 1 m p q) ∙ steps-one
-
   pub run-one : runOf k 1 m .ends ≡ stepOf k m
-  run-one = by-tests (runsOkOf (fixedOf m) k (m .vector) (m .bytes)) (wellFormedOf (m .warp)) refl refl
+  run-one = ap (λ (r : Ran). r .ends) (run-counted k 0 m) ∙ steps-one

@@ -6,7 +6,7 @@ use lib.ListN.{length}
 use lib.Seq.{sets}
 use Rattle.definition.specs.State.{State}
 use Rattle.definition.specs.Calls.{runOf}
-use Rattle.sheet.specs.Sheet.{headSize, stepLimit, linesOf}
+use Rattle.sheet_lines.specs.Sheet.{headSize, stepLimit, linesOf}
 
 -- n steps from the state m on: their lines stand in the target, t before and u after, and vector file and data, v and d, are as the run leaves them
 pub record Traces (k : List ℕ) (m : State) (n : ℕ) (v d t u : List ℕ) : Type 0 where

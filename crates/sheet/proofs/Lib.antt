@@ -1,0 +1,2 @@
+mod Tracing
+mod Cases
