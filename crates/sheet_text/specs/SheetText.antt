@@ -28,19 +28,19 @@ colon = 58 ∷ 32 ∷ []
 abbrev pub fullText : List ℕ
 fullText = 102 ∷ 117 ∷ 108 ∷ 108 ∷ 32 ∷ 109 ∷ 97 ∷ 114 ∷ 107 ∷ 115 ∷ []
 
--- differs at step 
+-- differs at step
 abbrev pub differsText : List ℕ
 differsText = 100 ∷ 105 ∷ 102 ∷ 102 ∷ 101 ∷ 114 ∷ 115 ∷ 32 ∷ 97 ∷ 116 ∷ 32 ∷ 115 ∷ 116 ∷ 101 ∷ 112 ∷ 32 ∷ []
 
--- short: 
+-- short:
 abbrev pub shortText : List ℕ
 shortText = 115 ∷ 104 ∷ 111 ∷ 114 ∷ 116 ∷ 58 ∷ 32 ∷ []
 
--- long: 
+-- long:
 abbrev pub longText : List ℕ
 longText = 108 ∷ 111 ∷ 110 ∷ 103 ∷ 58 ∷ 32 ∷ []
 
---  of 
+--  of
 abbrev pub ofText : List ℕ
 ofText = 32 ∷ 111 ∷ 102 ∷ 32 ∷ []
 
@@ -48,7 +48,7 @@ ofText = 32 ∷ 111 ∷ 102 ∷ 32 ∷ []
 abbrev pub stepsText : List ℕ
 stepsText = 32 ∷ 115 ∷ 116 ∷ 101 ∷ 112 ∷ 115 ∷ []
 
--- refused 
+-- refused
 abbrev pub refusedText : List ℕ
 refusedText = 114 ∷ 101 ∷ 102 ∷ 117 ∷ 115 ∷ 101 ∷ 100 ∷ 32 ∷ []
 
@@ -76,21 +76,21 @@ columnNames = 112 ∷ 99 ∷ 32 ∷ 32 ∷ 32 ∷ 32 ∷ 32 ∷ 32 ∷ 32 ∷ 32
 abbrev pub blankLabel : List ℕ
 blankLabel = 32 ∷ 32 ∷ 32 ∷ 32 ∷ 32 ∷ 32 ∷ 32 ∷ 32 ∷ 32 ∷ []
 
--- expected 
+-- expected
 abbrev pub expectedLabel : List ℕ
 expectedLabel = 101 ∷ 120 ∷ 112 ∷ 101 ∷ 99 ∷ 116 ∷ 101 ∷ 100 ∷ 32 ∷ []
 
--- given    
+-- given
 abbrev pub givenLabel : List ℕ
 givenLabel = 103 ∷ 105 ∷ 118 ∷ 101 ∷ 110 ∷ 32 ∷ 32 ∷ 32 ∷ 32 ∷ []
 
--- step  
+-- step
 abbrev pub stepLabel : List ℕ
 stepLabel = 115 ∷ 116 ∷ 101 ∷ 112 ∷ 32 ∷ 32 ∷ []
 
--- a comma and a blank
-abbrev pub commaText : List ℕ
-commaText = 44 ∷ 32 ∷ []
+-- steps, between blanks and a comma
+abbrev pub writtenText : List ℕ
+writtenText = 32 ∷ 115 ∷ 116 ∷ 101 ∷ 112 ∷ 115 ∷ 44 ∷ 32 ∷ []
 
 -- bytes, and a line feed
 abbrev pub bytesText : List ℕ
@@ -134,7 +134,7 @@ refusalLine c = refusalText c ++ feed
 
 -- a sheet of n steps in b bytes
 unfoldable pub writtenLine : List ℕ → ℕ → ℕ → List ℕ
-writtenLine name n b = name ++ colon ++ decimalOf n ++ stepsText ++ commaText ++ decimalOf b ++ bytesText
+writtenLine name n b = name ++ colon ++ decimalOf n ++ writtenText ++ decimalOf b ++ bytesText
 
 unfoldable pub unwrittenLine : List ℕ → List ℕ
 unwrittenLine name = name ++ unwrittenText
@@ -165,7 +165,7 @@ stepLines own given n =
 -- ---- a sheet as a table
 
 unfoldable pub rowOf : List ℕ → ℕ → List ℕ
-rowOf s i = rightOf 4 (i + 1) ++ gap ++ columnsAt s (placeOf i) ++ feed
+rowOf s i = rightOf 4 (i + 1) ++ labelled gap s (placeOf i)
 
 -- the first n rows
 unfoldable pub rowsOf : ℕ → List ℕ → List ℕ
