@@ -250,7 +250,7 @@ fn put_table(out: &mut [u8], s: &[u8]) -> usize
 
 // ---- the calls: each puts its text at the start of `out` and answers its length; 0 and nothing where that is too short
 
-fn room_for(name: &[u8], out: &[u8]) -> bool
+pub fn room_for(name: &[u8], out: &[u8]) -> bool
     ensures { λ r. ⌜ r ≡ roomFor (now (name .entry)) (now (out .entry)) ⌝ }
 {
     name.len() + LINE_ROOM <= out.len()
