@@ -10,93 +10,93 @@ use Rattle.sheet_lines.specs.declared.Marks.{Marks}
 use Rattle.sheet_lines.specs.declared.Marks.the-variants.{NoMarks, Full, Differs, Short, Long}
 use Rattle.sheet_lines.specs.Sheet.{headSize, lineSize, stepsIn}
 
--- ---- texts in ASCII; blanks at their ends count
+-- ---- texts in ASCII
 
 -- a line feed
 abbrev pub feed : List ℕ
 feed = 10 ∷ []
 
--- two blanks
+-- `  `
 abbrev pub gap : List ℕ
 gap = 32 ∷ 32 ∷ []
 
--- a colon and a blank
+-- `: `
 abbrev pub colon : List ℕ
 colon = 58 ∷ 32 ∷ []
 
--- full marks
+-- `full marks`
 abbrev pub fullText : List ℕ
 fullText = 102 ∷ 117 ∷ 108 ∷ 108 ∷ 32 ∷ 109 ∷ 97 ∷ 114 ∷ 107 ∷ 115 ∷ []
 
--- differs at step
+-- `differs at step `
 abbrev pub differsText : List ℕ
 differsText = 100 ∷ 105 ∷ 102 ∷ 102 ∷ 101 ∷ 114 ∷ 115 ∷ 32 ∷ 97 ∷ 116 ∷ 32 ∷ 115 ∷ 116 ∷ 101 ∷ 112 ∷ 32 ∷ []
 
--- short:
+-- `short: `
 abbrev pub shortText : List ℕ
 shortText = 115 ∷ 104 ∷ 111 ∷ 114 ∷ 116 ∷ 58 ∷ 32 ∷ []
 
--- long:
+-- `long: `
 abbrev pub longText : List ℕ
 longText = 108 ∷ 111 ∷ 110 ∷ 103 ∷ 58 ∷ 32 ∷ []
 
---  of
+-- ` of `
 abbrev pub ofText : List ℕ
 ofText = 32 ∷ 111 ∷ 102 ∷ 32 ∷ []
 
---  steps
+-- ` steps`
 abbrev pub stepsText : List ℕ
 stepsText = 32 ∷ 115 ∷ 116 ∷ 101 ∷ 112 ∷ 115 ∷ []
 
--- refused
+-- `refused `
 abbrev pub refusedText : List ℕ
 refusedText = 114 ∷ 101 ∷ 102 ∷ 117 ∷ 115 ∷ 101 ∷ 100 ∷ 32 ∷ []
 
--- a size, a base plus a length or a launch value is out of range
+-- `a size, a base plus a length or a launch value is out of range`
 abbrev pub sizeWords : List ℕ
 sizeWords = 97 ∷ 32 ∷ 115 ∷ 105 ∷ 122 ∷ 101 ∷ 44 ∷ 32 ∷ 97 ∷ 32 ∷ 98 ∷ 97 ∷ 115 ∷ 101 ∷ 32 ∷ 112 ∷ 108 ∷ 117 ∷ 115 ∷ 32 ∷ 97 ∷ 32 ∷ 108 ∷ 101 ∷ 110 ∷ 103 ∷ 116 ∷ 104 ∷ 32 ∷ 111 ∷ 114 ∷ 32 ∷ 97 ∷ 32 ∷ 108 ∷ 97 ∷ 117 ∷ 110 ∷ 99 ∷ 104 ∷ 32 ∷ 118 ∷ 97 ∷ 108 ∷ 117 ∷ 101 ∷ 32 ∷ 105 ∷ 115 ∷ 32 ∷ 111 ∷ 117 ∷ 116 ∷ 32 ∷ 111 ∷ 102 ∷ 32 ∷ 114 ∷ 97 ∷ 110 ∷ 103 ∷ 101 ∷ []
 
--- the card is missing, or its total, length or version is wrong
+-- `the card is missing, or its total, length or version is wrong`
 abbrev pub cardWords : List ℕ
 cardWords = 116 ∷ 104 ∷ 101 ∷ 32 ∷ 99 ∷ 97 ∷ 114 ∷ 100 ∷ 32 ∷ 105 ∷ 115 ∷ 32 ∷ 109 ∷ 105 ∷ 115 ∷ 115 ∷ 105 ∷ 110 ∷ 103 ∷ 44 ∷ 32 ∷ 111 ∷ 114 ∷ 32 ∷ 105 ∷ 116 ∷ 115 ∷ 32 ∷ 116 ∷ 111 ∷ 116 ∷ 97 ∷ 108 ∷ 44 ∷ 32 ∷ 108 ∷ 101 ∷ 110 ∷ 103 ∷ 116 ∷ 104 ∷ 32 ∷ 111 ∷ 114 ∷ 32 ∷ 118 ∷ 101 ∷ 114 ∷ 115 ∷ 105 ∷ 111 ∷ 110 ∷ 32 ∷ 105 ∷ 115 ∷ 32 ∷ 119 ∷ 114 ∷ 111 ∷ 110 ∷ 103 ∷ []
 
--- the sheet is missing, or its length, version or number of steps is wrong
+-- `the sheet is missing, or its length, version or number of steps is wrong`
 abbrev pub sheetWords : List ℕ
 sheetWords = 116 ∷ 104 ∷ 101 ∷ 32 ∷ 115 ∷ 104 ∷ 101 ∷ 101 ∷ 116 ∷ 32 ∷ 105 ∷ 115 ∷ 32 ∷ 109 ∷ 105 ∷ 115 ∷ 115 ∷ 105 ∷ 110 ∷ 103 ∷ 44 ∷ 32 ∷ 111 ∷ 114 ∷ 32 ∷ 105 ∷ 116 ∷ 115 ∷ 32 ∷ 108 ∷ 101 ∷ 110 ∷ 103 ∷ 116 ∷ 104 ∷ 44 ∷ 32 ∷ 118 ∷ 101 ∷ 114 ∷ 115 ∷ 105 ∷ 111 ∷ 110 ∷ 32 ∷ 111 ∷ 114 ∷ 32 ∷ 110 ∷ 117 ∷ 109 ∷ 98 ∷ 101 ∷ 114 ∷ 32 ∷ 111 ∷ 102 ∷ 32 ∷ 115 ∷ 116 ∷ 101 ∷ 112 ∷ 115 ∷ 32 ∷ 105 ∷ 115 ∷ 32 ∷ 119 ∷ 114 ∷ 111 ∷ 110 ∷ 103 ∷ []
 
--- the run has no steps
+-- `the run has no steps`
 abbrev pub noStepsWords : List ℕ
 noStepsWords = 116 ∷ 104 ∷ 101 ∷ 32 ∷ 114 ∷ 117 ∷ 110 ∷ 32 ∷ 104 ∷ 97 ∷ 115 ∷ 32 ∷ 110 ∷ 111 ∷ 32 ∷ 115 ∷ 116 ∷ 101 ∷ 112 ∷ 115 ∷ []
 
--- pc        word      mask      splits, each over its column, and a line feed
+-- `pc        word      mask      splits` and a line feed
 abbrev pub columnNames : List ℕ
 columnNames = 112 ∷ 99 ∷ 32 ∷ 32 ∷ 32 ∷ 32 ∷ 32 ∷ 32 ∷ 32 ∷ 32 ∷ 119 ∷ 111 ∷ 114 ∷ 100 ∷ 32 ∷ 32 ∷ 32 ∷ 32 ∷ 32 ∷ 32 ∷ 109 ∷ 97 ∷ 115 ∷ 107 ∷ 32 ∷ 32 ∷ 32 ∷ 32 ∷ 32 ∷ 32 ∷ 115 ∷ 112 ∷ 108 ∷ 105 ∷ 116 ∷ 115 ∷ 10 ∷ []
 
--- nine blanks, the width of the next two
+-- `         `
 abbrev pub blankLabel : List ℕ
 blankLabel = 32 ∷ 32 ∷ 32 ∷ 32 ∷ 32 ∷ 32 ∷ 32 ∷ 32 ∷ 32 ∷ []
 
--- expected
+-- `expected `
 abbrev pub expectedLabel : List ℕ
 expectedLabel = 101 ∷ 120 ∷ 112 ∷ 101 ∷ 99 ∷ 116 ∷ 101 ∷ 100 ∷ 32 ∷ []
 
--- given
+-- `given    `
 abbrev pub givenLabel : List ℕ
 givenLabel = 103 ∷ 105 ∷ 118 ∷ 101 ∷ 110 ∷ 32 ∷ 32 ∷ 32 ∷ 32 ∷ []
 
--- step
+-- `step  `
 abbrev pub stepLabel : List ℕ
 stepLabel = 115 ∷ 116 ∷ 101 ∷ 112 ∷ 32 ∷ 32 ∷ []
 
--- steps, between blanks and a comma
+-- ` steps, `
 abbrev pub writtenText : List ℕ
 writtenText = 32 ∷ 115 ∷ 116 ∷ 101 ∷ 112 ∷ 115 ∷ 44 ∷ 32 ∷ []
 
--- bytes, and a line feed
+-- ` bytes` and a line feed
 abbrev pub bytesText : List ℕ
 bytesText = 32 ∷ 98 ∷ 121 ∷ 116 ∷ 101 ∷ 115 ∷ 10 ∷ []
 
--- : could not be written, and a line feed
+-- `: could not be written` and a line feed
 abbrev pub unwrittenText : List ℕ
 unwrittenText = 58 ∷ 32 ∷ 99 ∷ 111 ∷ 117 ∷ 108 ∷ 100 ∷ 32 ∷ 110 ∷ 111 ∷ 116 ∷ 32 ∷ 98 ∷ 101 ∷ 32 ∷ 119 ∷ 114 ∷ 105 ∷ 116 ∷ 116 ∷ 101 ∷ 110 ∷ 10 ∷ []
 
