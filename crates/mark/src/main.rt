@@ -30,13 +30,7 @@ fn show_step(card: &[u8], kernel: &[u8], sheet: &[u8], step: u32) {
     let mut target = [0u8; SHEET_ROOM];
     let mut out = [0u8; STEPS_ROOM];
     let b = files::read_argument(DATA, &mut memory);
-    let own = sheet_files::model_files(
-        card,
-        kernel,
-        &mut memory[..b],
-        &mut vector,
-        &mut target,
-    );
+    let own = sheet_files::model_files(card, kernel, &mut memory[..b], &mut vector, &mut target);
     let n = io::count(own.written as isize, &target);
     let m = sheet_text::step_lines(&target[..n], sheet, step as usize, &mut out);
     io::write_all(1, &out[..m]);
