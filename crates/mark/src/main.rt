@@ -36,37 +36,48 @@ fn show_step(card: &[u8], kernel: &[u8], sheet: &[u8], step: u32) {
     io::write_all(1, &out[..m]);
 }
 
-// The line of the sheet that argument i names. A program has no exit status: a refused sheet is told on descriptor 3.
-fn mark_sheet(i: usize, show: bool) {
-    let mut name = [0u8; NAME_BUFFER];
-    let mut cards = [0u8; CARD_BUFFER];
-    let mut kernels = [0u8; KERNEL_BUFFER];
-    let mut memory = [0u8; DATA_BUFFER];
-    let mut sheets = [0u8; SHEET_BUFFER];
+// The line of one sheet. A program has no exit status: a refused sheet is told on descriptor 3.
+fn print_marks(
+    card: &[u8],
+    kernel: &[u8],
+    bytes: &mut [u8],
+    sheet: &[u8],
+    name: &[u8],
+    show: bool,
+) {
     let mut vector = [0u32; 1024];
     let mut out = [0u8; LINE_BUFFER];
-    let n = os::arg(i, &mut name);
-    let c = files::read_argument(CARD, &mut cards);
-    let k = files::read_argument(KERNEL, &mut kernels);
-    let b = files::read_argument(DATA, &mut memory);
-    let s = files::read_file(&name[..n], &mut sheets);
-    let line = sheet_files::mark_files(
-        &cards[..c],
-        &kernels[..k],
-        &mut memory[..b],
-        &mut vector,
-        &sheets[..s],
-        &name[..n],
-        &mut out,
-    );
+    let line = sheet_files::mark_files(card, kernel, bytes, &mut vector, sheet, name, &mut out);
     let size = line.size;
     io::write_all(1, &out[..size]);
     if line.number != answer::DONE {
         io::write_all(3, b"r");
     }
     if show & (line.step != 0) {
-        show_step(&cards[..c], &kernels[..k], &sheets[..s], line.step);
+        show_step(card, kernel, sheet, line.step);
     }
+}
+
+// The sheet that argument i names, against the three files.
+fn mark_sheet(i: usize, show: bool) {
+    let mut name = [0u8; NAME_BUFFER];
+    let mut cards = [0u8; CARD_BUFFER];
+    let mut kernels = [0u8; KERNEL_BUFFER];
+    let mut memory = [0u8; DATA_BUFFER];
+    let mut sheets = [0u8; SHEET_BUFFER];
+    let n = os::arg(i, &mut name);
+    let c = files::read_argument(CARD, &mut cards);
+    let k = files::read_argument(KERNEL, &mut kernels);
+    let b = files::read_argument(DATA, &mut memory);
+    let s = files::read_file(&name[..n], &mut sheets);
+    print_marks(
+        &cards[..c],
+        &kernels[..k],
+        &mut memory[..b],
+        &sheets[..s],
+        &name[..n],
+        show,
+    );
 }
 
 fn main() {
