@@ -1,18 +1,18 @@
-// The three files by name, and the printout to standard output. What the printout says is `printout`'s.
-use printout::DATA_BYTES;
-use printout::KERNEL_BYTES;
+// Files by name or by argument, and the printout of three to standard output. What the printout says is `printout`'s.
+use launch_files::DATA_BYTES;
+use launch_files::KERNEL_BYTES;
 use printout::ROOM;
 ghost use Rattle.io.specs.Counts.{Counts};
 
 // A byte to spare, by which a file that is too large is noticed.
-const CARD_BUFFER: usize = 51;
+pub const CARD_BUFFER: usize = 51;
 
-const KERNEL_BUFFER: usize = KERNEL_BYTES + 1;
+pub const KERNEL_BUFFER: usize = KERNEL_BYTES + 1;
 
-const DATA_BUFFER: usize = DATA_BYTES + 1;
+pub const DATA_BUFFER: usize = DATA_BYTES + 1;
 
 // A file's first bytes, as many as `buffer` holds: none where it cannot be opened, and those before the read that fails where one does.
-fn read_file(path: &[u8], buffer: &mut [u8]) -> usize
+pub fn read_file(path: &[u8], buffer: &mut [u8]) -> usize
     ensures { λ r. ⌜ Counts r (now (buffer .exit)) ⌝ }
 {
     let file = os::open_read(path);
@@ -22,6 +22,15 @@ fn read_file(path: &[u8], buffer: &mut [u8]) -> usize
     let n = io::read_full(file, buffer);
     libc::close(file);
     n
+}
+
+// The same of the file that the program's argument i names.
+pub fn read_argument(i: usize, buffer: &mut [u8]) -> usize
+    ensures { λ r. ⌜ Counts r (now (buffer .exit)) ⌝ }
+{
+    let mut path = io::buffer();
+    let n = os::arg(i, &mut path);
+    read_file(&path[..n], buffer)
 }
 
 // The printout of three files by name.

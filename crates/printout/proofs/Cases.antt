@@ -1,8 +1,8 @@
 -- The printout by cases, in the order in which the files are tested; and what follows of the call.
-use Prim.Native.Nat.{ℕ, _%_, _≤_}
+use Prim.Native.Nat.{ℕ, _≤_}
 use mathlib.Core.Path.{_≡_, refl, sym, ap, _∙_}
-use mathlib.Core.Bool.{Bool, true, false, not, cond}
-use mathlib.Core.List.{List, [], _∷_}
+use mathlib.Core.Bool.{Bool, true, false, cond}
+use mathlib.Core.List.{List}
 use native.Mathlib.Omega.{arith}
 use native.Mathlib.Nat.{zero-add}
 use lib.Dec.{eqb, leb}
@@ -10,38 +10,29 @@ use borrow.Author.Tests.{ne-eqb, leb-true}
 use lib.ListN.{length, replicate, length-replicate}
 use lib.Seq.{length-sets, length-take-le}
 use Rattle.io.specs.Counts.{Counts}
-use Rattle.answer.specs.Rows.{_⇒_, first}
-use Rattle.answer.proofs.Rows.{both, every-at}
+use Rattle.answer.proofs.Rows.{both}
 use Rattle.lanes.specs.Lanes.{fileWords}
 use Rattle.warp.specs.declared.Launch.{Launch}
 use Rattle.warp.specs.WellFormed.{launchOkOf}
-use Rattle.card.specs.Card.{Reading, readCardOf}
+use Rattle.card.specs.Card.{Reading}
 use Rattle.definition.specs.State.{Outcome}
 use Rattle.definition.specs.Refuse.{runsOkOf}
 use Rattle.definition.specs.Calls.{launchOf, runOf}
 use Rattle.definition.proofs.Sizes.{sizes-kept}
+use Rattle.launch_files.specs.LaunchFiles.{kernelWordsOf, readFilesOf}
 use Rattle.text.specs.Puts.{Puts}
-use Rattle.printout.specs.Printout.{codeLine, budget, kernelBytes, dataBytes, filesOkOf, Report, report, ranReport, kernelWordsOf, kernelReport, reportOf, printoutOf, Printed, printed, putInto, buffersOkOf, printFilesOf, roomNeeded}
+use Rattle.printout.specs.Printout.{codeLine, budget, Report, report, ranReport, kernelReport, reportOf, printoutOf, Printed, printed, putInto, buffersOkOf, printFilesOf, roomNeeded}
 
 -- ---- the files
 
-module _ (c k v d : List ℕ) (r : Reading) (e : r ≡ readCardOf c) (n : ℕ) (is : n ≡ r .number) where
-  pub card-refused : (n ≡ 0 → ⊥) → reportOf c k v d ≡ report (codeLine n) v d
+module _ (c k v d : List ℕ) (r : Reading) (e : r ≡ readFilesOf c k d) (n : ℕ) (is : n ≡ r .number) where
+  pub files-refused : (n ≡ 0 → ⊥) → reportOf c k v d ≡ report (codeLine n) v d
   unfolding reportOf
-  card-refused h = rw (← e, ← is, ne-eqb n 0 h, ne-eqb n 0 h)
+  files-refused h = rw (← e, ← is, ne-eqb n 0 h)
 
-  module _ (h : n ≡ 0) where
-    pub files-refused : filesOkOf k d ≡ false → reportOf c k v d ≡ report (codeLine 1) v d
-    unfolding reportOf
-    files-refused f = rw (← e, ← is, h, f)
-
-    pub files-taken : filesOkOf k d ≡ true → reportOf c k v d ≡ kernelReport (kernelWordsOf k) (r .launch) v d
-    unfolding reportOf
-    files-taken f = rw (← e, ← is, h, f)
-
-pub kernel-fits : (k d : List ℕ) → filesOkOf k d ≡ true → length k ≤ kernelBytes
-unfolding filesOkOf
-kernel-fits k d e = leb-true _ _ (every-at (eqb (length k % 4) 0 ∷ leb (length k) kernelBytes ∷ leb (length d) dataBytes ∷ []) e 1)
+  pub files-taken : n ≡ 0 → reportOf c k v d ≡ kernelReport (kernelWordsOf k) (r .launch) v d
+  unfolding reportOf
+  files-taken h = rw (← e, ← is, h)
 
 -- ---- the launch
 
@@ -99,10 +90,8 @@ module _ (v d : List ℕ) (h : length v ≡ fileWords) where
 
   pub printout-is : (c k : List ℕ) → reportOf c k v d .lines ≡ printoutOf c k d
   unfolding reportOf printoutOf
-  printout-is c k =
-      let r = readCardOf c in
-      go (first (r .number ⇒ not (eqb (r .number) 0) ∷ 1 ⇒ not (filesOkOf k d) ∷ [])) (eqb (first (r .number ⇒ not (eqb (r .number) 0) ∷ 1 ⇒ not (filesOkOf k d) ∷ [])) 0)
+  printout-is c k = go (readFilesOf c k d) (eqb (readFilesOf c k d .number) 0)
     where
-      go : (n : ℕ) (t : Bool) → cond t (kernelReport (kernelWordsOf k) (readCardOf c .launch) v d) (report (codeLine n) v d) .lines ≡ cond t (kernelReport (kernelWordsOf k) (readCardOf c .launch) zeros d) (report (codeLine n) zeros d) .lines
-      go n true = kernel-lines (kernelWordsOf k) (readCardOf c .launch) _ _ refl refl
-      go n false = refl
+      go : (r : Reading) (t : Bool) → cond t (kernelReport (kernelWordsOf k) (r .launch) v d) (report (codeLine (r .number)) v d) .lines ≡ cond t (kernelReport (kernelWordsOf k) (r .launch) zeros d) (report (codeLine (r .number)) zeros d) .lines
+      go r true = kernel-lines (kernelWordsOf k) (r .launch) _ _ refl refl
+      go r false = refl

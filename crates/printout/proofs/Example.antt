@@ -12,8 +12,9 @@ use Rattle.definition.specs.Refuse.{runsOkOf, refusalsOf}
 use Rattle.definition.specs.Exec.{effectOf}
 use Rattle.definition.specs.Step.{stepOf}
 use Rattle.definition.specs.Calls.{launchOf, stepsOf, runOf}
+use Rattle.launch_files.specs.LaunchFiles.{kernelWordsOf, filesOkOf, readFilesOf}
 use Rattle.text.specs.Text.{decimalOf, hexOf}
-use Rattle.printout.specs.Printout.{codeLine, fiveLines, kernelWordsOf, filesOkOf, kernelReport, reportOf, printoutOf}
+use Rattle.printout.specs.Printout.{codeLine, fiveLines, kernelReport, reportOf, printoutOf}
 
 -- length 48, version 1, NUMT 4, NUMW 1, WID 0; the mask; code base, data base and entry PC; KNL to GIDZ
 abbrev card : List ℕ
@@ -21,7 +22,7 @@ card = 0 ∷ 48 ∷ 1 ∷ 4 ∷ 1 ∷ 0 ∷ 0 ∷ 0 ∷ 0 ∷ 15 ∷ 128 ∷ 0 �
 
 -- the files' printout is code 3, steps 1, pc 80000000, mask f, splits 0
 end-alone : printoutOf card (11 ∷ 64 ∷ 0 ∷ 0 ∷ []) [] ≡ fiveLines 3 1 0x80000000 15 0
-unfolding printoutOf reportOf filesOkOf kernelWordsOf kernelReport readCardOf headOkAt launchAt launchOf runOf stepsOf stepOf runsOkOf refusalsOf effectOf wellFormedOf fixedOkOf chainOf splitOkOf allZero bitAt decodeOf stopWord endPrgWord
+unfolding printoutOf reportOf readFilesOf filesOkOf kernelWordsOf kernelReport readCardOf headOkAt launchAt launchOf runOf stepsOf stepOf runsOkOf refusalsOf effectOf wellFormedOf fixedOkOf chainOf splitOkOf allZero bitAt decodeOf stopWord endPrgWord
 end-alone = refl
 
 -- and those are the lines

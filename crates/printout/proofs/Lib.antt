@@ -1,5 +1,4 @@
 -- What the proofs of several functions use.
-mod Laws
 pub mod Cases
 -- the example printout, by computing
 mod Example

@@ -1,17 +1,15 @@
 -- The printout: five lines after a run, or the code line alone after a refused card or launch.
-use Prim.Native.Nat.{ℕ, zero, suc, _*_, _/_, _%_}
-use mathlib.Core.Bool.{Bool, not, _&&_, cond}
+use Prim.Native.Nat.{ℕ}
+use mathlib.Core.Bool.{Bool, _&&_, cond}
 use mathlib.Core.List.{List, [], _∷_, _++_}
 use lib.Dec.{eqb, leb}
 use lib.ListN.{length, replicate}
 use lib.Seq.{sets}
-use Rattle.answer.specs.Rows.{_⇒_, first, every}
 use Rattle.lanes.specs.Lanes.{fileWords}
-use Rattle.memory.specs.Bytes.{leAt}
 use Rattle.warp.specs.declared.Launch.{Launch}
-use Rattle.card.specs.Card.{readCardOf}
 use Rattle.definition.specs.State.{Outcome}
 use Rattle.definition.specs.Calls.{launchOf, Ran, runOf}
+use Rattle.launch_files.specs.LaunchFiles.{kernelWordsOf, readFilesOf}
 use Rattle.text.specs.Text.{hexOf, decimalOf, lineOf}
 
 -- ---- the lines' names in ASCII, each with the blank after it
@@ -52,27 +50,8 @@ fiveLines code steps pc mask splits =
 
 -- ---- three files in, lines out
 
--- the first n little-endian words of a kernel file
-abbrev pub firstWords : ℕ → List ℕ → List ℕ
-firstWords zero k = []
-firstWords (suc n) k = firstWords n k ++ (leAt 4 k (4 * n) ∷ [])
-
-unfoldable pub kernelWordsOf : List ℕ → List ℕ
-kernelWordsOf k = firstWords (length k / 4) k
-
 abbrev pub budget : ℕ
 budget = 65536
-
--- the program's own limits, whatever the machine's are: the bytes of a kernel file, and of a data file
-abbrev pub kernelBytes : ℕ
-kernelBytes = 65536
-
-abbrev pub dataBytes : ℕ
-dataBytes = 65536
-
--- a kernel file of whole words, and both within the limits
-unfoldable pub filesOkOf : List ℕ → List ℕ → Bool
-filesOkOf k d = every (eqb (length k % 4) 0 ∷ leb (length k) kernelBytes ∷ leb (length d) dataBytes ∷ [])
 
 -- the lines, and the vector file and data memory that are left
 pub record Report : Type 0 where
@@ -96,12 +75,11 @@ launchedReport k o = cond (eqb (o .code) 0) (ranReport (runOf k budget (o .left)
 unfoldable pub kernelReport : List ℕ → Launch → List ℕ → List ℕ → Report
 kernelReport k l v d = launchedReport k (launchOf k l v d)
 
--- the files c, k and d, with the vector file v lent: the card first, then the files' sizes, then the launch
+-- the files c, k and d, with the vector file v lent: the files' tests first, then the launch
 unfoldable pub reportOf : List ℕ → List ℕ → List ℕ → List ℕ → Report
 reportOf c k v d =
-    let r = readCardOf c in
-    let n = first (r .number ⇒ not (eqb (r .number) 0) ∷ 1 ⇒ not (filesOkOf k d) ∷ []) in
-    cond (eqb n 0) (kernelReport (kernelWordsOf k) (r .launch) v d) (report (codeLine n) v d)
+    let r = readFilesOf c k d in
+    cond (eqb (r .number) 0) (kernelReport (kernelWordsOf k) (r .launch) v d) (report (codeLine (r .number)) v d)
 
 -- the printout, which the three files alone decide (the law printout-is)
 unfoldable pub printoutOf : List ℕ → List ℕ → List ℕ → List ℕ

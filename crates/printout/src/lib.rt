@@ -1,11 +1,12 @@
 // The bench program's work: three files' bytes in, the printout's bytes out.
+use launch_files::KERNEL_WORDS;
 use warp::Launch;
 ghost use mathlib.Core.Path.{_≡_};
-ghost use Prim.Native.Nat.{_/_, _≤_};
-ghost use lib.ListN.{length, take};
+ghost use Prim.Native.Nat.{_≤_};
+ghost use lib.ListN.{length};
 ghost use Rattle.io.specs.Counts.{Counts};
 ghost use Rattle.text.specs.Puts.{Puts};
-ghost use Rattle.printout.specs.Printout.{codeLine, fiveLines, kernelWordsOf, filesOkOf, kernelReport, reportOf, printed, putInto, buffersOkOf, printFilesOf, roomNeeded};
+ghost use Rattle.printout.specs.Printout.{codeLine, fiveLines, kernelReport, reportOf, printed, putInto, buffersOkOf, printFilesOf, roomNeeded};
 
 // ---- the printout, from the start of `out`
 
@@ -27,31 +28,10 @@ fn put_five_lines(out: &mut [u8], code: u32, steps: u64, pc: u32, mask: u32, spl
     text::put_decimal_line(out, four, b"splits ", splits)
 }
 
-// ---- the kernel file's words
-
-// The words of a kernel file at the start of `words`.
-fn put_words(kernel: &[u8], words: &mut [u32])
-    requires { ⌜ length (now kernel) / 4 ≤ length (now words) ⌝ }
-    ensures { λ _. ⌜ take (length (now (kernel .entry)) / 4) (now (words .exit)) ≡ kernelWordsOf (now (kernel .entry)) ⌝ }
-{
-    let n = kernel.len() / 4;
-    let mut i = 0;
-    while i < n {
-        words[i] = memory::word_at(kernel, 4 * i);
-        i += 1;
-    }
-}
-
 // ---- three files in, lines out
 
-// The program's own limits: the bytes of a kernel file and of a data file. And the bytes that hold every printout.
-pub const KERNEL_BYTES: usize = 65536;
-
-pub const DATA_BYTES: usize = 65536;
-
+// The bytes that hold every printout.
 pub const ROOM: usize = 107;
-
-const KERNEL_WORDS: usize = KERNEL_BYTES / 4;
 
 const FILE_WORDS: usize = 1024;
 
@@ -88,13 +68,6 @@ fn print_kernel(
     )
 }
 
-// A kernel file of whole words, and both files within the limits.
-fn files_ok(kernel: &[u8], bytes: &[u8]) -> bool
-    ensures { λ r. ⌜ r ≡ filesOkOf (now (kernel .entry)) (now (bytes .entry)) ⌝ }
-{
-    (kernel.len() % 4 == 0) & ((kernel.len() <= KERNEL_BYTES) & (bytes.len() <= DATA_BYTES))
-}
-
 // The printout of the three files' bytes, where there is room for it.
 fn print_card(
     card: &[u8],
@@ -106,17 +79,14 @@ fn print_card(
     requires { ⌜ roomNeeded ≤ length (now out) ⌝ }
     ensures { λ r. ⌜ (printed r (now (out .exit)) (now (vector .exit)) (now (bytes .exit)) ≡ putInto (now (out .entry)) (reportOf (now (card .entry)) (now (kernel .entry)) (now (vector .entry)) (now (bytes .entry)))) × (r ≤ roomNeeded) ⌝ }
 {
-    let read = card::read_card(card);
+    let read = launch_files::read_files(card, kernel, bytes);
     let a = read.answer;
     let code = answer::number(a);
     if code != answer::DONE {
         return put_code_line(out, code);
     }
-    if !files_ok(kernel, bytes) {
-        return put_code_line(out, answer::SIZE);
-    }
     let mut words = [0u32; KERNEL_WORDS];
-    put_words(kernel, &mut words);
+    launch_files::put_words(kernel, &mut words);
     let n = kernel.len() / 4;
     let l = read.launch;
     print_kernel(l, &words[..n], vector, bytes, out)

@@ -1,17 +1,17 @@
 -- Laws of text put into a buffer, and of digits.
 use mathlib.Core.Path.{_≡_, refl, ap, sym, _∙_}
 use mathlib.Core.Bool.{Bool, true, false, cond}
-use mathlib.Core.List.{List, [], _∷_, _++_}
+use mathlib.Core.List.{List, [], _∷_, _++_, append-assoc}
 use Prim.Native.Nat.{ℕ, zero, suc, _+_, _-_, _/_, _%_, _^_, _≤_, _<_}
 use native.Mathlib.Nat.{add-zero, add-suc, suc-add, pow-suc, mod-eq-of-lt, div-lt-iff-lt-mul}
 use native.Mathlib.Numerals.{add-one, sub-one}
 use native.Mathlib.Omega.{arith}
 use lib.Dec.{ltb}
 use borrow.Author.Tests.{lt-ltb, le-ltb}
-use lib.ListN.{length, take, set, getD, length-append}
+use lib.ListN.{length, take, set, getD, replicate, length-append, length-replicate, replicate-append-replicate}
 use lib.Seq.{sets, take-suc, length-take-le}
 use Rattle.text.specs.Puts.{Puts}
-use Rattle.text.specs.Text.{digitOf, hexDigits, decimalDigits, decimalOf}
+use Rattle.text.specs.Text.{digitOf, hexDigits, decimalDigits, hexOf, decimalOf, rightOf}
 
 -- ---- one text after another
 
@@ -45,6 +45,10 @@ pub hex-length : (k n : ℕ) → length (hexDigits k n) ≡ k
 hex-length zero n = refl
 hex-length (suc k) n = length-append (hexDigits k (n / 16)) _ ∙ omega (arith, hex-length k (n / 16))
 
+pub hex-size : (n : ℕ) → length (hexOf n) ≡ 8
+unfolding hexOf
+hex-size n = hex-length 8 n
+
 pub hex-more : (k n : ℕ) → (k ≡ 0 → ⊥) → hexDigits k n ≡ hexDigits (k - 1) (n / 16) ++ (digitOf (n % 16) ∷ [])
 hex-more zero n h = absurd (h refl)
 hex-more (suc k) n h = rw sub-one
@@ -75,3 +79,24 @@ decimal-length (suc k) n = simp length-append (omega (arith, cond-length (ltb n 
 pub decimal-size : (n : ℕ) → length (decimalOf n) ≤ 20
 unfolding decimalOf
 decimal-size n = decimal-length 19 n
+
+-- ---- blanks in front
+
+pub blanks-more : (k : ℕ) → (k ≡ 0 → ⊥) → replicate {A = ℕ} k 32 ≡ replicate (k - 1) 32 ++ (32 ∷ [])
+blanks-more zero h = absurd (h refl)
+blanks-more (suc k) h = rw sub-one (ap (λ (n : ℕ). replicate {A = ℕ} n 32) (sym (add-one k)) ∙ sym (replicate-append-replicate {A = ℕ} k 1 32))
+
+pub right-few : (w n : ℕ) → n < 10 → rightOf w n ≡ replicate (w - 1) 32 ++ (digitOf n ∷ [])
+unfolding rightOf
+right-few w n h = rw (decimal-few n h)
+
+pub right-more : (w n : ℕ) → 10 ≤ n → n < 2 ^ 64 → rightOf w n ≡ rightOf (w - 1) (n / 10) ++ (digitOf (n % 10) ∷ [])
+unfolding rightOf
+right-more w n h f =
+    let last : List ℕ = digitOf (n % 10) ∷ [] in
+    let e : w - length (decimalOf (n / 10) ++ last) ≡ w - 1 - length (decimalOf (n / 10)) = simp length-append (omega arith) in
+    rw (decimal-more n h f, e) (sym (append-assoc (replicate (w - 1 - length (decimalOf (n / 10))) 32) (decimalOf (n / 10)) last))
+
+pub right-size : (w n : ℕ) → w ≤ 20 → length (rightOf w n) ≤ 20
+unfolding rightOf
+right-size w n h = simp (length-append, length-replicate) (omega (arith, decimal-size n))

@@ -1,8 +1,9 @@
 -- Numbers and lines as ASCII bytes.
-use Prim.Native.Nat.{ℕ, zero, suc, _+_, _/_, _%_}
+use Prim.Native.Nat.{ℕ, zero, suc, _+_, _-_, _/_, _%_}
 use mathlib.Core.Bool.{cond}
 use mathlib.Core.List.{List, [], _∷_, _++_}
 use lib.Dec.{ltb}
+use lib.ListN.{length, replicate}
 
 -- `0` to `9`, then `a` to `f`
 abbrev pub digitOf : ℕ → ℕ
@@ -24,6 +25,10 @@ hexOf n = hexDigits 8 n
 
 unfoldable pub decimalOf : ℕ → List ℕ
 decimalOf n = decimalDigits 19 n
+
+-- n in decimal with blanks in front, w places wide where its digits are no more
+unfoldable pub rightOf : ℕ → ℕ → List ℕ
+rightOf w n = replicate (w - length (decimalOf n)) 32 ++ decimalOf n
 
 -- a name with the blank after it, a value, a line feed
 abbrev pub lineOf : List ℕ → List ℕ → List ℕ

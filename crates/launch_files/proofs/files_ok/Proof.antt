@@ -1,7 +1,7 @@
 use mathlib.Core.Bool.{and-true}
-use Rattle.printout.specs.Printout.{filesOkOf}
-use Rattle.printout.proofs.files_ok.Statement.{statement}
-use Rattle.printout.proofs.files_ok.Tie as tie
+use Rattle.launch_files.specs.LaunchFiles.{filesOkOf}
+use Rattle.launch_files.proofs.files_ok.Statement.{statement}
+use Rattle.launch_files.proofs.files_ok.Tie as tie
 
 returns : tie.Need-returns
 unfolding filesOkOf

@@ -2,10 +2,10 @@ use mathlib.Core.Path.{_≡_, refl}
 use Prim.Native.Nat.{_≤_, _-_, _/_}
 use native.Mathlib.Omega.{arith}
 use lib.ListN.{length, take, length-set}
-use Rattle.printout.specs.Printout.{firstWords, kernelWordsOf}
-use Rattle.printout.proofs.Laws.{words-more}
-use Rattle.printout.proofs.put_words.Statement.{statement}
-use Rattle.printout.proofs.put_words.Tie as tie
+use Rattle.launch_files.specs.LaunchFiles.{firstWords, kernelWordsOf}
+use Rattle.launch_files.proofs.Laws.{words-more}
+use Rattle.launch_files.proofs.put_words.Statement.{statement}
+use Rattle.launch_files.proofs.put_words.Tie as tie
 
 abbrev Inv-loop : tie.InvT-loop
 Inv-loop kernel words₀ n i₀ words i = (i ≤ n) × (length words ≡ length words₀) × (take i words ≡ firstWords i kernel)
