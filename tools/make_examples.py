@@ -1,14 +1,16 @@
 #!/usr/bin/env python3
 """Makes the example folders examples/NAME and the case folders crates/test_bench/data/NAME, each with
-card.bin, kernel.bin, data.bin and expected.txt, and the stdout of crates/bench and crates/test_bench.
+card.bin, kernel.bin, data.bin and expected.txt, the sheets of examples/class with what ./mark and ./sheet print of
+them, and the stdout of crates/bench, crates/test_bench, crates/mark and crates/model_sheet.
 
-The kernels are written as text and encoded by tools/case_files.py. The expected printout is made by the plain
-Rust reference, never by the bench program.
+The kernels are written as text and encoded by tools/case_files.py. The expected printout, the model sheet and the
+marks are made by the plain Rust reference, never by the proved programs; the columns of a step are read from the
+reference's sheet.
 
 usage: make_examples.py REFERENCE_PROGRAM             writes the files; the program is the reference's `reference`
        make_examples.py --check REFERENCE_PROGRAM     says whether the stored files are what is made here
 """
-import functools, os, sys, tempfile
+import functools, os, struct, sys, tempfile
 
 import case_files
 from case_files import ROOT, packed, words_of
@@ -82,6 +84,9 @@ EXAMPLES = {
     'crossing': (card(numw=2, wid=1, pds=DATA), CROSSING, bytes(32)),
 }
 
+# the folder of the sheets that ./mark marks
+CLASS = (card(), SPLIT, None)
+
 # the examples again, then wrong, missing, empty and oversized files, and the largest that are taken
 CASES = {
     **EXAMPLES,
@@ -109,14 +114,89 @@ CASES = {
 NAMES = ('card.bin', 'kernel.bin', 'data.bin')
 
 
-def printout(files, reference):
-    """what the reference prints in a folder with the files"""
+def reference_on(files, reference, before=(), after=(), more=(), out=None):
+    """what the reference prints in a folder with the files and the (name, content) of `more`, or the file `out` that it writes there"""
     with tempfile.TemporaryDirectory() as folder:
-        for file, content in zip(NAMES, files):
+        for file, content in (*zip(NAMES, files), *more):
             if content is not None:
                 with open(os.path.join(folder, file), 'wb') as f:
                     f.write(content)
-        return case_files.output_of(reference, *NAMES, cwd=folder)
+        printed = case_files.output_of(reference, *before, *NAMES, *after, cwd=folder)
+        if out is None:
+            return printed
+        with open(os.path.join(folder, out), 'rb') as f:
+            return f.read()
+
+
+def printout(files, reference):
+    return reference_on(files, reference)
+
+
+# ---- the class: sheets of the split, by what is wrong with them
+
+HEAD, LINE = 5, 13
+
+
+def sheet_of(lines):
+    body = b''.join(lines)
+    return struct.pack('>IB', 1 + len(body), 1) + body
+
+
+def lines_of(sheet):
+    return [sheet[at:at + LINE] for at in range(HEAD, len(sheet), LINE)]
+
+
+def columns(line):
+    return '%08x  %08x  %08x  %d' % struct.unpack('>IIIB', line)
+
+
+COLUMNS = 'pc        word      mask      splits'
+
+
+def table(sheet):
+    """what ./sheet prints"""
+    rows = ['%4d  %s' % (1 + i, columns(line)) for i, line in enumerate(lines_of(sheet))]
+    return ''.join(row + '\n' for row in ['step  ' + COLUMNS, *rows]).encode()
+
+
+def class_sheets(model):
+    """name and bytes; None: no such file"""
+    lines = lines_of(model)
+    split = 4                               # the VBLT: its mask with one bit wrong
+    wrong = bytearray(lines[split])
+    wrong[11] ^= 1
+    return {
+        'full.bin': model,
+        'one_bit.bin': sheet_of(lines[:split] + [bytes(wrong)] + lines[split + 1:]),
+        'short.bin': sheet_of(lines[:-1]),
+        'long.bin': sheet_of(lines + lines[-1:]),
+        'empty.bin': b'',
+        'missing.bin': None,
+    }
+
+
+def shown(model, sheet, mark):
+    """what ./mark --show prints below a sheet's line"""
+    if not mark.startswith(b'differs'):
+        return b''
+    at = int(mark.split()[-1]) - 1
+    rows = [' ' * 9 + COLUMNS, 'expected ' + columns(lines_of(model)[at]), 'given    ' + columns(lines_of(sheet)[at])]
+    return ''.join(row + '\n' for row in rows).encode()
+
+
+def class_files(reference):
+    """the files of examples/class but the launch's, and the stdout of the programs that rt runs on them"""
+    model = reference_on(CLASS, reference, ('sheet',), ('model.bin',), out='model.bin')
+    sheets = class_sheets(model)
+    marks = {name: reference_on(CLASS, reference, ('mark',), (name,), ((name, sheet),)) for name, sheet in sheets.items()}
+
+    def marked(folder, show):
+        lines = ((folder + name).encode() + b': ' + mark + (shown(model, sheets[name], mark) if show else b'') for name, mark in marks.items())
+        return b''.join(lines)
+
+    made = {'marked.txt': marked('examples/class/', False), 'shown.txt': marked('examples/class/', True), 'table.txt': table(model)}
+    made |= {name: sheet for name, sheet in sheets.items() if sheet is not None}
+    return made, {'crates/mark/stdout': marked('', True), 'crates/model_sheet/stdout': table(model)}
 
 
 def contents(reference):
@@ -124,7 +204,10 @@ def contents(reference):
     printed = {name: printout(files, reference) for name, files in CASES.items()}
     # rt runs bench on the first example, and test_bench on every case in the order above
     made = {'crates/bench/stdout': printed['end'], 'crates/test_bench/stdout': b''.join(printed.values())}
-    folders = {'crates/bench/data': EXAMPLES['end']}
+    folders = {'crates/bench/data': EXAMPLES['end'], 'examples/class': CLASS, 'crates/mark/data': CLASS, 'crates/model_sheet/data': CLASS}
+    sheets, stdouts = class_files(reference)
+    made |= stdouts | {'examples/class/' + name: content for name, content in sheets.items()} | {'examples/class/expected.txt': printout(CLASS, reference)}
+    made |= {'crates/mark/data/' + name: content for name, content in sheets.items() if name.endswith('.bin')}
     for parent, cases in (('examples', EXAMPLES), ('crates/test_bench/data', CASES)):
         folders |= {'%s/%s' % (parent, name): files for name, files in cases.items()}
         made |= {'%s/%s/expected.txt' % (parent, name): printed[name] for name in cases}

@@ -19,18 +19,6 @@ pub struct Line {
     pub step: u32,
 }
 
-fn differing_step(m: Marks) -> u32
-    ensures { λ r. ⌜ r ≡ marksStep m ⌝ }
-{
-    match m {
-        Marks::NoMarks => 0,
-        Marks::Full => 0,
-        Marks::Differs(step) => step,
-        Marks::Short => 0,
-        Marks::Long => 0,
-    }
-}
-
 // What the sheet is worth against the run of the three files.
 fn mark_run(
     card: &[u8],
@@ -90,7 +78,7 @@ pub fn mark_files(
     let number = answer::number(a);
     let given = sheet_text::steps_in(sheet);
     let size = sheet_text::mark_line(name, number, m, given, got.steps, out);
-    let step = differing_step(m);
+    let step = sheet_lines::marks_step(m);
     Line { size, number, step }
 }
 

@@ -8,7 +8,7 @@ use Rattle.big_endian.specs.BigEndian.{beAt}
 use Rattle.text.specs.Text.{hexOf, decimalOf, rightOf}
 use Rattle.sheet_lines.specs.declared.Marks.{Marks}
 use Rattle.sheet_lines.specs.declared.Marks.the-variants.{NoMarks, Full, Differs, Short, Long}
-use Rattle.sheet_lines.specs.Sheet.{headSize, lineSize, stepsIn}
+use Rattle.sheet_lines.specs.Sheet.{sizeOf, stepsIn}
 
 -- ---- texts in ASCII
 
@@ -141,10 +141,6 @@ unwrittenLine name = name ++ unwrittenText
 
 -- ---- steps in columns
 
--- the first byte of step i of a sheet, counted from 0
-abbrev pub placeOf : ℕ → ℕ
-placeOf i = headSize + lineSize * i
-
 unfoldable pub wordColumn : ℕ → List ℕ
 wordColumn w = hexOf w ++ gap
 
@@ -155,17 +151,17 @@ columnsAt s at = wordColumn (beAt 4 s at) ++ wordColumn (beAt 4 s (at + 4)) ++ w
 unfoldable pub labelled : List ℕ → List ℕ → ℕ → List ℕ
 labelled label s at = label ++ columnsAt s at ++ feed
 
--- step n, counted from 1, of the run's sheet and of the one handed in
+-- step n, counted from 1, of the run's sheet and of the one handed in; it begins where a sheet of the steps before it ends
 unfoldable pub stepLines : List ℕ → List ℕ → ℕ → List ℕ
 stepLines own given n =
     blankLabel ++ columnNames
-    ++ labelled expectedLabel own (placeOf (n - 1))
-    ++ labelled givenLabel given (placeOf (n - 1))
+    ++ labelled expectedLabel own (sizeOf (n - 1))
+    ++ labelled givenLabel given (sizeOf (n - 1))
 
 -- ---- a sheet as a table
 
 unfoldable pub rowOf : List ℕ → ℕ → List ℕ
-rowOf s i = rightOf 4 (i + 1) ++ labelled gap s (placeOf i)
+rowOf s i = rightOf 4 (i + 1) ++ labelled gap s (sizeOf i)
 
 -- the first n rows
 unfoldable pub rowsOf : ℕ → List ℕ → List ℕ

@@ -18,7 +18,7 @@ returns-2 c =
     let test = marks .before .before .before in
     let put = line .mark-line .ensures in
     let text = rw (number .number .ensures, given .steps-in .ensures) at (put .1) in
-    (put .0, rw (number .number .ensures, c .differing-step .ensures) (line-done _ _ _ _ _ _ _ (sym (test .before .buffers-ok .ensures) ∙ not-false _ (test .if1 .left)) _ (marks .mark-run .ensures) _ text))
+    (put .0, rw (number .number .ensures, c .marks-step .ensures) (line-done _ _ _ _ _ _ _ (sym (test .before .buffers-ok .ensures) ∙ not-false _ (test .if1 .left)) _ (marks .mark-run .ensures) _ text))
 
 pub mark-files-spec : {M : Type 1} → statement M
 mark-files-spec =
