@@ -4,8 +4,8 @@ use mathlib.Core.Path.{_≡_, refl, sym, ap, ap₂, _∙_}
 use mathlib.Core.Bool.{Bool, true, false, not, _&&_, true≢false}
 use mathlib.Core.List.{List, [], _∷_, _++_, flatten}
 use native.Mathlib.Omega.{arith}
-use lib.Dec.{eqb, leb, lit<}
-use lib.ListN.{length}
+use lib.Dec.{lit<}
+use lib.ListN.{length, drop}
 use lib.Seq.{sets, length-sets}
 use borrow.Author.Tests.{eq-eqb, ne-eqb, le-leb, lt-leb}
 use Rattle.answer.specs.Rows.{Row, _⇒_, first}
@@ -107,7 +107,7 @@ module _ (k : List ℕ) (l : Launch) (v d : List ℕ) where
 
   module _ (s : List ℕ) where
     abbrev markRows : List (Row Bool)
-    markRows = 16 ⇒ not (sheetOkOf s) ∷ 17 ⇒ noSteps k l v d ∷ []
+    markRows = drop 2 (markTests k l v d s)
 
     mark-refused : (c : ℕ) → (c ≡ 0 → ⊥) → first (markTests k l v d s) ≡ c → (e : Lent) → e ≡ lentOf c k l v d → marking c NoMarks 0 e ≡ markOf k l v d s
     unfolding markOf
@@ -136,7 +136,7 @@ module _ (k : List ℕ) (l : Launch) (v d : List ℕ) where
 
   module _ (t : List ℕ) where
     abbrev modelRows : List (Row Bool)
-    modelRows = 1 ⇒ not (leb roomNeeded (length t)) ∷ 17 ⇒ noSteps k l v d ∷ []
+    modelRows = drop 2 (modelTests k l v d t)
 
     model-refused : (c : ℕ) → (c ≡ 0 → ⊥) → first (modelTests k l v d t) ≡ c → (e : Lent) → e ≡ lentOf c k l v d → modelling c 0 t e ≡ modelOf k l v d t
     unfolding modelOf
