@@ -3,8 +3,8 @@ use files::CARD_BUFFER;
 use files::DATA_BUFFER;
 use files::KERNEL_BUFFER;
 use sheet_lines::SHEET_ROOM;
+use sheet_table::STEPS_ROOM;
 use sheet_text::LINE_ROOM;
-use sheet_text::STEPS_ROOM;
 
 const MODE: usize = 1;
 
@@ -32,7 +32,7 @@ fn show_step(card: &[u8], kernel: &[u8], sheet: &[u8], step: u32) {
     let b = files::read_argument(DATA, &mut memory);
     let own = sheet_files::model_files(card, kernel, &mut memory[..b], &mut vector, &mut target);
     let n = io::count(own.written as isize, &target);
-    let m = sheet_text::step_lines(&target[..n], sheet, step as usize, &mut out);
+    let m = sheet_table::step_lines(&target[..n], sheet, step as usize, &mut out);
     io::write_all(1, &out[..m]);
 }
 

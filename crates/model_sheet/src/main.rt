@@ -3,8 +3,8 @@ use files::CARD_BUFFER;
 use files::DATA_BUFFER;
 use files::KERNEL_BUFFER;
 use sheet_lines::SHEET_ROOM;
+use sheet_table::TABLE_ROOM;
 use sheet_text::LINE_ROOM;
-use sheet_text::TABLE_ROOM;
 
 const CARD: usize = 1;
 
@@ -32,7 +32,7 @@ fn print_refusal(number: u32) {
 
 fn print_table(sheet: &[u8]) {
     let mut out = [0u8; TABLE_ROOM];
-    let n = sheet_text::table(sheet, &mut out);
+    let n = sheet_table::table(sheet, &mut out);
     io::write_all(1, &out[..n]);
 }
 
@@ -51,7 +51,7 @@ fn write_sheet(sheet: &[u8]) {
     let mut out = [0u8; LINE_BUFFER];
     let n = os::arg(TARGET, &mut name);
     if write_file(&name[..n], sheet) {
-        let steps = sheet_text::steps_in(sheet);
+        let steps = sheet_lines::steps_in(sheet);
         let size = sheet_text::written_line(&name[..n], steps, sheet.len(), &mut out);
         io::write_all(1, &out[..size]);
         return;

@@ -76,7 +76,7 @@ pub fn mark_files(
     let a = got.answer;
     let m = got.marks;
     let number = answer::number(a);
-    let given = sheet_text::steps_in(sheet);
+    let given = sheet_lines::steps_in(sheet);
     let size = sheet_text::mark_line(name, number, m, given, got.steps, out);
     let step = sheet_lines::marks_step(m);
     Line { size, number, step }

@@ -6,7 +6,7 @@ ghost use lib.ListN.{length, getD};
 ghost use lib.Seq.{sets};
 ghost use Rattle.big_endian.specs.Layout.{bytesOf};
 ghost use Rattle.definition.specs.State.{placeOf};
-ghost use Rattle.sheet_lines.specs.Sheet.{headSize, lineSize, stepLimit, sizeOf, lineValues, headOf, sheetOkOf, linesAt};
+ghost use Rattle.sheet_lines.specs.Sheet.{headSize, lineSize, stepLimit, sizeOf, lineValues, headOf, stepsIn, sheetOkOf, linesAt};
 ghost use Rattle.sheet_lines.specs.Compare.{marksNumber, marksStep, compareOf};
 
 pub const HEAD_SIZE: usize = 5;
@@ -96,6 +96,16 @@ pub fn put_head(t: &mut [u8], n: usize)
 {
     big_endian::put_word(t, 0, (1 + LINE_SIZE * n) as u32);
     big_endian::put_byte(t, 4, VERSION);
+}
+
+// How many steps the bytes of a sheet have room for.
+pub fn steps_in(s: &[u8]) -> usize
+    ensures { λ r. ⌜ r ≡ stepsIn (now (s .entry)) ⌝ }
+{
+    if s.len() < HEAD_SIZE {
+        return 0;
+    }
+    (s.len() - HEAD_SIZE) / LINE_SIZE
 }
 
 // Whether the bytes are a well-formed sheet.

@@ -1,14 +1,12 @@
 -- What the calls answer and leave: a text at the start of a buffer, or nothing.
-use Prim.Native.Nat.{ℕ, _+_, _*_}
-use mathlib.Core.Bool.{Bool, _&&_, cond}
-use mathlib.Core.List.{List, [], _∷_}
-use lib.Dec.{leb, ltb}
+use Prim.Native.Nat.{ℕ, _+_}
+use mathlib.Core.Bool.{Bool, cond}
+use mathlib.Core.List.{List, []}
+use lib.Dec.{leb}
 use lib.ListN.{length}
 use lib.Seq.{sets}
-use Rattle.answer.specs.Rows.{every}
 use Rattle.sheet_lines.specs.declared.Marks.{Marks}
-use Rattle.sheet_lines.specs.Sheet.{stepLimit, stepsIn}
-use Rattle.sheet_text.specs.SheetText.{markLine, refusalLine, writtenLine, unwrittenLine, stepLines, tableOf}
+use Rattle.sheet_text.specs.SheetText.{markLine, refusalLine, writtenLine, unwrittenLine}
 
 -- how many bytes of the text were put, and the buffer afterwards
 pub record Put : Type 0 where
@@ -22,21 +20,11 @@ put n o = record { size = n; out = o }
 unfoldable pub putWhere : Bool → List ℕ → List ℕ → Put
 putWhere t o w = cond t (put (length w) (sets o 0 w)) (put 0 o)
 
--- ---- room for every text of its kind; for a line beside its name
+-- ---- the calls
 
+-- room for every line beside its name
 abbrev pub lineRoom : ℕ
 lineRoom = 105
-
-abbrev pub stepsRoom : ℕ
-stepsRoom = 166
-
-abbrev pub rowRoom : ℕ
-rowRoom = 73
-
-abbrev pub tableRoom : ℕ
-tableRoom = 43 + rowRoom * stepLimit
-
--- ---- the calls
 
 -- for a line with the name
 abbrev pub roomFor : List ℕ → List ℕ → Bool
@@ -53,17 +41,3 @@ writtenLineInto name n b o = putWhere (roomFor name o) o (writtenLine name n b)
 
 unfoldable pub unwrittenLineInto : List ℕ → List ℕ → Put
 unwrittenLineInto name o = putWhere (roomFor name o) o (unwrittenLine name)
-
--- both sheets have step n, and there is room
-unfoldable pub hasStep : List ℕ → List ℕ → ℕ → List ℕ → Bool
-hasStep own given n o = every (ltb 0 n ∷ leb n (stepsIn own) ∷ leb n (stepsIn given) ∷ leb stepsRoom (length o) ∷ [])
-
-unfoldable pub stepLinesInto : List ℕ → List ℕ → ℕ → List ℕ → Put
-stepLinesInto own given n o = putWhere (hasStep own given n o) o (stepLines own given n)
-
--- no more steps than a sheet may have, and there is room
-unfoldable pub tableFits : List ℕ → List ℕ → Bool
-tableFits s o = leb (stepsIn s) stepLimit && leb tableRoom (length o)
-
-unfoldable pub tableInto : List ℕ → List ℕ → Put
-tableInto s o = putWhere (tableFits s o) o (tableOf s)

@@ -1,24 +1,17 @@
--- What a teacher reads of answer sheets: the line of a marked sheet, two steps side by side, a sheet as a table.
-use Prim.Native.Nat.{ℕ, zero, suc, _+_, _*_, _-_}
+-- The lines that a teacher reads of answer sheets.
+use Prim.Native.Nat.{ℕ}
 use mathlib.Core.Bool.{cond}
 use mathlib.Core.List.{List, [], _∷_, _++_}
 use lib.Dec.{eqb}
-use lib.ListN.{length}
-use Rattle.big_endian.specs.BigEndian.{beAt}
-use Rattle.text.specs.Text.{hexOf, decimalOf, rightOf}
+use Rattle.text.specs.Text.{decimalOf}
 use Rattle.sheet_lines.specs.declared.Marks.{Marks}
 use Rattle.sheet_lines.specs.declared.Marks.the-variants.{NoMarks, Full, Differs, Short, Long}
-use Rattle.sheet_lines.specs.Sheet.{sizeOf, stepsIn}
 
 -- ---- texts in ASCII
 
 -- a line feed
 abbrev pub feed : List ℕ
 feed = 10 ∷ []
-
--- `  `
-abbrev pub gap : List ℕ
-gap = 32 ∷ 32 ∷ []
 
 -- `: `
 abbrev pub colon : List ℕ
@@ -67,26 +60,6 @@ sheetWords = 116 ∷ 104 ∷ 101 ∷ 32 ∷ 115 ∷ 104 ∷ 101 ∷ 101 ∷ 116 
 -- `the run has no steps`
 abbrev pub noStepsWords : List ℕ
 noStepsWords = 116 ∷ 104 ∷ 101 ∷ 32 ∷ 114 ∷ 117 ∷ 110 ∷ 32 ∷ 104 ∷ 97 ∷ 115 ∷ 32 ∷ 110 ∷ 111 ∷ 32 ∷ 115 ∷ 116 ∷ 101 ∷ 112 ∷ 115 ∷ []
-
--- `pc        word      mask      splits` and a line feed
-abbrev pub columnNames : List ℕ
-columnNames = 112 ∷ 99 ∷ 32 ∷ 32 ∷ 32 ∷ 32 ∷ 32 ∷ 32 ∷ 32 ∷ 32 ∷ 119 ∷ 111 ∷ 114 ∷ 100 ∷ 32 ∷ 32 ∷ 32 ∷ 32 ∷ 32 ∷ 32 ∷ 109 ∷ 97 ∷ 115 ∷ 107 ∷ 32 ∷ 32 ∷ 32 ∷ 32 ∷ 32 ∷ 32 ∷ 115 ∷ 112 ∷ 108 ∷ 105 ∷ 116 ∷ 115 ∷ 10 ∷ []
-
--- `         `
-abbrev pub blankLabel : List ℕ
-blankLabel = 32 ∷ 32 ∷ 32 ∷ 32 ∷ 32 ∷ 32 ∷ 32 ∷ 32 ∷ 32 ∷ []
-
--- `expected `
-abbrev pub expectedLabel : List ℕ
-expectedLabel = 101 ∷ 120 ∷ 112 ∷ 101 ∷ 99 ∷ 116 ∷ 101 ∷ 100 ∷ 32 ∷ []
-
--- `given    `
-abbrev pub givenLabel : List ℕ
-givenLabel = 103 ∷ 105 ∷ 118 ∷ 101 ∷ 110 ∷ 32 ∷ 32 ∷ 32 ∷ 32 ∷ []
-
--- `step  `
-abbrev pub stepLabel : List ℕ
-stepLabel = 115 ∷ 116 ∷ 101 ∷ 112 ∷ 32 ∷ 32 ∷ []
 
 -- ` steps, `
 abbrev pub writtenText : List ℕ
@@ -138,35 +111,3 @@ writtenLine name n b = name ++ colon ++ decimalOf n ++ writtenText ++ decimalOf 
 
 unfoldable pub unwrittenLine : List ℕ → List ℕ
 unwrittenLine name = name ++ unwrittenText
-
--- ---- steps in columns
-
-unfoldable pub wordColumn : ℕ → List ℕ
-wordColumn w = hexOf w ++ gap
-
--- PC, word, mask and open splits of the step at byte at
-unfoldable pub columnsAt : List ℕ → ℕ → List ℕ
-columnsAt s at = wordColumn (beAt 4 s at) ++ wordColumn (beAt 4 s (at + 4)) ++ wordColumn (beAt 4 s (at + 8)) ++ decimalOf (beAt 1 s (at + 12))
-
-unfoldable pub labelled : List ℕ → List ℕ → ℕ → List ℕ
-labelled label s at = label ++ columnsAt s at ++ feed
-
--- step n, counted from 1, of the run's sheet and of the one handed in; it begins where a sheet of the steps before it ends
-unfoldable pub stepLines : List ℕ → List ℕ → ℕ → List ℕ
-stepLines own given n =
-    blankLabel ++ columnNames
-    ++ labelled expectedLabel own (sizeOf (n - 1))
-    ++ labelled givenLabel given (sizeOf (n - 1))
-
--- ---- a sheet as a table
-
-unfoldable pub rowOf : List ℕ → ℕ → List ℕ
-rowOf s i = rightOf 4 (i + 1) ++ labelled gap s (sizeOf i)
-
--- the first n rows
-unfoldable pub rowsOf : ℕ → List ℕ → List ℕ
-rowsOf zero s = []
-rowsOf (suc n) s = rowsOf n s ++ rowOf s n
-
-unfoldable pub tableOf : List ℕ → List ℕ
-tableOf s = stepLabel ++ columnNames ++ rowsOf (stepsIn s) s
