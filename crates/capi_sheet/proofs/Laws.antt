@@ -7,7 +7,7 @@ use lib.ListN.{length, set}
 use borrow.Author.Tests.{eq-eqb, ne-eqb}
 use Rattle.card.specs.Card.{Reading, readCardOf}
 use Rattle.sheet_lines.specs.declared.Marks.the-variants.{NoMarks}
-use Rattle.sheet.specs.Mark.{lent, Marking, markOf, Modelling, modelOf}
+use Rattle.sheet.specs.Mark.{lentRuns, Marking, markOf, Modelling, modelOf}
 use Rattle.capi_sheet.specs.Calls.{fitted, marksWords, markCalled, markCallOf, sheetCalled, sheetCallOf}
 
 -- ---- words that fit
@@ -26,12 +26,12 @@ two-words a b (x ∷ y ∷ z ∷ t) e = absurd (omega arith)
 -- ---- the calls; r is what the card is read as, n its number
 module _ (c k v d : List ℕ) (r : Reading) (e : r ≡ readCardOf c) (n : ℕ) (is : n ≡ r .number) where
   module _ (s t : List ℕ) where
-    pub mark-card : (n ≡ 0 → ⊥) → (u : List ℕ) → u ≡ fitted (marksWords NoMarks) t → markCalled n u (lent v d) ≡ markCallOf c k v d s t
+    pub mark-card : (n ≡ 0 → ⊥) → (u : List ℕ) → u ≡ fitted (marksWords NoMarks) t → markCalled n u (lentRuns v d) ≡ markCallOf c k v d s t
     unfolding markCallOf
     mark-card h u f = rw (← e, ← is, ne-eqb n 0 h, ne-eqb n 0 h, f)
 
     module _ (h : n ≡ 0) where
-      pub mark-room : (length t ≡ 2 → ⊥) → markCalled 1 t (lent v d) ≡ markCallOf c k v d s t
+      pub mark-room : (length t ≡ 2 → ⊥) → markCalled 1 t (lentRuns v d) ≡ markCallOf c k v d s t
       unfolding markCallOf
       mark-room z = rw (← e, ← is, h, ne-eqb _ _ z)
 
@@ -41,12 +41,12 @@ module _ (c k v d : List ℕ) (r : Reading) (e : r ≡ readCardOf c) (n : ℕ) (
       mark-call z a q u f = rw (f, ← e, ← is, h, ← q, eq-eqb _ _ z)
 
   module _ (t w : List ℕ) where
-    pub sheet-card : (n ≡ 0 → ⊥) → (u : List ℕ) → u ≡ fitted (0 ∷ []) w → sheetCalled n u t (lent v d) ≡ sheetCallOf c k v d t w
+    pub sheet-card : (n ≡ 0 → ⊥) → (u : List ℕ) → u ≡ fitted (0 ∷ []) w → sheetCalled n u t (lentRuns v d) ≡ sheetCallOf c k v d t w
     unfolding sheetCallOf
     sheet-card h u f = rw (← e, ← is, ne-eqb n 0 h, ne-eqb n 0 h, f)
 
     module _ (h : n ≡ 0) where
-      pub sheet-room : (length w ≡ 1 → ⊥) → sheetCalled 1 w t (lent v d) ≡ sheetCallOf c k v d t w
+      pub sheet-room : (length w ≡ 1 → ⊥) → sheetCalled 1 w t (lentRuns v d) ≡ sheetCallOf c k v d t w
       unfolding sheetCallOf
       sheet-room z = rw (← e, ← is, h, ne-eqb _ _ z)
 

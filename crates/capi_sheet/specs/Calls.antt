@@ -9,7 +9,7 @@ use Rattle.card.specs.Card.{Reading, readCardOf}
 use Rattle.sheet_lines.specs.declared.Marks.{Marks}
 use Rattle.sheet_lines.specs.declared.Marks.the-variants.{NoMarks}
 use Rattle.sheet_lines.specs.Compare.{marksNumber, marksStep}
-use Rattle.sheet.specs.Mark.{Lent, lent, Marking, markOf, Modelling, modelOf}
+use Rattle.sheet.specs.Mark.{LentRuns, lentRuns, Marking, markOf, Modelling, modelOf}
 
 -- the words ws in a lent run t that has room for just them; another run stays as it was
 abbrev pub fitted : List ℕ → List ℕ → List ℕ
@@ -28,9 +28,9 @@ callNumber r n t = first (r .number ⇒ not (eqb (r .number) 0) ∷ 1 ⇒ not (e
 pub record MarkCalled : Type 0 where
   pub number : ℕ
   pub result : List ℕ
-  pub left : Lent
+  pub left : LentRuns
 
-abbrev pub markCalled : ℕ → List ℕ → Lent → MarkCalled
+abbrev pub markCalled : ℕ → List ℕ → LentRuns → MarkCalled
 markCalled n t e = record { number = n; result = t; left = e }
 
 unfoldable pub markCallOf : List ℕ → List ℕ → List ℕ → List ℕ → List ℕ → List ℕ → MarkCalled
@@ -38,7 +38,7 @@ markCallOf c k v d s t =
     let r : Reading = readCardOf c in
     let n : ℕ = callNumber r 2 t in
     let a : Marking = markOf k (r .launch) v d s in
-    cond (eqb n 0) (markCalled (a .number) (fitted (marksWords (a .marks)) t) (a .left)) (markCalled n (fitted (marksWords NoMarks) t) (lent v d))
+    cond (eqb n 0) (markCalled (a .number) (fitted (marksWords (a .marks)) t) (a .left)) (markCalled n (fitted (marksWords NoMarks) t) (lentRuns v d))
 
 -- ---- the model sheet: what the call leaves, with the word that counts the bytes written
 
@@ -46,9 +46,9 @@ pub record SheetCalled : Type 0 where
   pub number : ℕ
   pub written : List ℕ
   pub target : List ℕ
-  pub left : Lent
+  pub left : LentRuns
 
-abbrev pub sheetCalled : ℕ → List ℕ → List ℕ → Lent → SheetCalled
+abbrev pub sheetCalled : ℕ → List ℕ → List ℕ → LentRuns → SheetCalled
 sheetCalled n w t e = record { number = n; written = w; target = t; left = e }
 
 unfoldable pub sheetCallOf : List ℕ → List ℕ → List ℕ → List ℕ → List ℕ → List ℕ → SheetCalled
@@ -56,4 +56,4 @@ sheetCallOf c k v d t w =
     let r : Reading = readCardOf c in
     let n : ℕ = callNumber r 1 w in
     let a : Modelling = modelOf k (r .launch) v d t in
-    cond (eqb n 0) (sheetCalled (a .number) (fitted (a .written ∷ []) w) (a .target) (a .left)) (sheetCalled n (fitted (0 ∷ []) w) t (lent v d))
+    cond (eqb n 0) (sheetCalled (a .number) (fitted (a .written ∷ []) w) (a .target) (a .left)) (sheetCalled n (fitted (0 ∷ []) w) t (lentRuns v d))

@@ -3,7 +3,7 @@ use sheet_lines::Marks;
 ghost use mathlib.Core.Path.{_≡_};
 ghost use mathlib.Core.List.{[], _∷_};
 ghost use Rattle.sheet_lines.specs.Compare.{marksNumber, marksStep};
-ghost use Rattle.sheet.specs.Mark.{lent};
+ghost use Rattle.sheet.specs.Mark.{lentRuns};
 ghost use Rattle.capi_sheet.specs.Calls.{fitted, marksWords, markCalled, markCallOf, sheetCalled, sheetCallOf};
 
 // The marks' number and the differing step, where there is room for just these two.
@@ -36,7 +36,7 @@ pub extern "C" fn bench_mark(
     sheet: &[u8],
     result: &mut [u32],
 ) -> u32
-    ensures { λ r. ⌜ markCalled r (now (result .exit)) (lent (now (vector .exit)) (now (bytes .exit))) ≡ markCallOf (now (card .entry)) (now (kernel .entry)) (now (vector .entry)) (now (bytes .entry)) (now (sheet .entry)) (now (result .entry)) ⌝ }
+    ensures { λ r. ⌜ markCalled r (now (result .exit)) (lentRuns (now (vector .exit)) (now (bytes .exit))) ≡ markCallOf (now (card .entry)) (now (kernel .entry)) (now (vector .entry)) (now (bytes .entry)) (now (sheet .entry)) (now (result .entry)) ⌝ }
 {
     let read = card::read_card(card);
     let a = read.answer;
@@ -65,7 +65,7 @@ pub extern "C" fn bench_sheet(
     target: &mut [u8],
     written: &mut [u32],
 ) -> u32
-    ensures { λ r. ⌜ sheetCalled r (now (written .exit)) (now (target .exit)) (lent (now (vector .exit)) (now (bytes .exit))) ≡ sheetCallOf (now (card .entry)) (now (kernel .entry)) (now (vector .entry)) (now (bytes .entry)) (now (target .entry)) (now (written .entry)) ⌝ }
+    ensures { λ r. ⌜ sheetCalled r (now (written .exit)) (now (target .exit)) (lentRuns (now (vector .exit)) (now (bytes .exit))) ≡ sheetCallOf (now (card .entry)) (now (kernel .entry)) (now (vector .entry)) (now (bytes .entry)) (now (target .entry)) (now (written .entry)) ⌝ }
 {
     let read = card::read_card(card);
     let a = read.answer;

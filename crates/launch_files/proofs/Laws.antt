@@ -36,13 +36,13 @@ module _ (c k d : List ℕ) (r : Reading) (e : r ≡ readCardOf c) where
   card-refused h = rw (← e, ne-eqb (r .number) 0 h)
 
   module _ (h : r .number ≡ 0) where
-    pub files-refused : filesOkOf k d ≡ false → reading 1 (r .launch) ≡ readFilesOf c k d
+    pub sizes-refused : filesOkOf k d ≡ false → reading 1 (r .launch) ≡ readFilesOf c k d
     unfolding readFilesOf
-    files-refused f = rw (← e, h, f)
+    sizes-refused f = rw (← e, h, f)
 
-    pub files-taken : filesOkOf k d ≡ true → r ≡ readFilesOf c k d
+    pub sizes-taken : filesOkOf k d ≡ true → r ≡ readFilesOf c k d
     unfolding readFilesOf
-    files-taken f = rw (← e, h, f)
+    sizes-taken f = rw (← e, h, f)
 
 -- a kernel file that is not refused is within its limit
 pub kernel-fits : (c k d : List ℕ) (r : Reading) → r ≡ readFilesOf c k d → r .number ≡ 0 → length k ≤ kernelBytes

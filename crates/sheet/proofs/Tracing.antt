@@ -12,7 +12,7 @@ use Rattle.definition.specs.Step.{stepOf}
 use Rattle.definition.specs.Calls.{Ran, ran, stepsOf, runOf}
 use Rattle.definition.proofs.Target.{step-within}
 use Rattle.definition.proofs.Calls.{steps-end, steps-on, steps-stop, run-counted}
-use Rattle.sheet_lines.specs.Sheet.{headSize, lineSize, stepLimit, lineValues, lineOf, linesOf}
+use Rattle.sheet_lines.specs.Sheet.{headSize, lineSize, stepLimit, lineValues, lineBytes, linesOf}
 use Rattle.sheet.specs.Traces.{Traces}
 use Rattle.sheet_lines.proofs.Lines.{Lines, flatten-length, flatten-append, line-length, line-is, lines-taken, lines-refused}
 
@@ -46,7 +46,7 @@ module _ (k : List ℕ) (n : ℕ) (m : State) where
     more : stepLimit - n ≡ suc (stepLimit - (n + 1))
     more = omega arith
 
-    pub lines-on : stepOf k m .code ≡ 0 → linesOf k (stepLimit - n) m ≡ lineOf k m (stepOf k m .left) ∷ linesOf k (stepLimit - (n + 1)) (stepOf k m .left)
+    pub lines-on : stepOf k m .code ≡ 0 → linesOf k (stepLimit - n) m ≡ lineBytes k m (stepOf k m .left) ∷ linesOf k (stepLimit - (n + 1)) (stepOf k m .left)
     lines-on z = rw more (lines-taken k (stepLimit - (n + 1)) m z)
 
     lines-stop : (stepOf k m .code ≡ 0 → ⊥) → linesOf k (stepLimit - n) m ≡ []
@@ -85,7 +85,7 @@ module _ (k : List ℕ) (a b : State) (n : ℕ) (t u : List ℕ) (r : Tracing k 
     unfolding flatten
     tracing-on z w f u' h =
         let y : stepOf k b .code ≡ 0 = sym (ap (λ (x : Outcome). x .code) e) ∙ z in
-        let x : List ℕ = lineOf k b (o .left) in
+        let x : List ℕ = lineBytes k b (o .left) in
         let i : headSize + lineSize * n ≡ headSize + length (flatten (r .done)) = omega (arith, flatten-length (r .done) (r .sized), r .long) in
         record {
           few = omega arith;
@@ -93,7 +93,7 @@ module _ (k : List ℕ) (a b : State) (n : ℕ) (t u : List ℕ) (r : Tracing k 
           long = length-append (r .done) (x ∷ []) ∙ omega (arith, r .long);
           sized = lines-snoc (r .done) x (r .sized) (line-length k b (o .left));
           lines = r .lines
-              ∙ ap (λ (ls : List (List ℕ)). r .done ++ ls) (lines-on k n b l y ∙ ap (λ (p : Outcome). lineOf k b (p .left) ∷ linesOf k (stepLimit - (n + 1)) (p .left)) (sym e))
+              ∙ ap (λ (ls : List (List ℕ)). r .done ++ ls) (lines-on k n b l y ∙ ap (λ (p : Outcome). lineBytes k b (p .left) ∷ linesOf k (stepLimit - (n + 1)) (p .left)) (sym e))
               ∙ sym (append-snoc (r .done) x _);
           text = h ∙ ap (sets u (headSize + lineSize * n)) (line-is k b (o .left) w f) ∙ ap₂ (λ (s : List ℕ) (j : ℕ). sets s j x) (r .text) i ∙ sets-append (flatten (r .done)) t headSize x
               ∙ ap (sets t headSize) (sym (flatten-append (r .done) (x ∷ []) ∙ ap (λ (s : List ℕ). flatten (r .done) ++ s) (append-nil x)));

@@ -16,7 +16,7 @@ ghost use Rattle.answer.specs.Answer.{numberOf};
 ghost use Rattle.warp.specs.WellFormed.{launchOkOf};
 ghost use Rattle.definition.specs.State.{state};
 ghost use Rattle.definition.specs.Refuse.{runsOkOf};
-ghost use Rattle.sheet.specs.Mark.{startOf, lent, marking, markOf, modelling, modelOf, roomNeeded};
+ghost use Rattle.sheet.specs.Mark.{ownStart, lentRuns, marking, markOf, modelling, modelOf, sheetRoom};
 ghost use Rattle.sheet.specs.Traces.{Traces};
 
 // What marking answers: where refused, no marks and no steps. `steps` counts those of the run.
@@ -36,7 +36,7 @@ pub struct Modelled {
 
 // At most 4,096 steps from the warp on, each one's line put into `t`; answers how many were taken. A step is a run of one step: the loop over steps has one caller.
 fn trace(start: Warp, kernel: &[u32], vector: &mut [u32], bytes: &mut [u8], t: &mut [u8]) -> usize
-    requires { ⌜ roomNeeded ≤ length (now t) ⌝ }
+    requires { ⌜ sheetRoom ≤ length (now t) ⌝ }
     ensures { λ r. ⌜ Traces (now (kernel .entry)) (state start (now (vector .entry)) (now (bytes .entry))) r (now (vector .exit)) (now (bytes .exit)) (now (t .entry)) (now (t .exit)) ⌝ }
 {
     let mut w = start;
@@ -72,8 +72,8 @@ fn trace_launch(
     bytes: &mut [u8],
     t: &mut [u8],
 ) -> usize
-    requires { ⌜ roomNeeded ≤ length (now t) ⌝ }
-    ensures { λ r. ⌜ Traces (now (kernel .entry)) (startOf (now (kernel .entry)) l (now (vector .entry)) (now (bytes .entry))) r (now (vector .exit)) (now (bytes .exit)) (now (t .entry)) (now (t .exit)) ⌝ }
+    requires { ⌜ sheetRoom ≤ length (now t) ⌝ }
+    ensures { λ r. ⌜ Traces (now (kernel .entry)) (ownStart (now (kernel .entry)) l (now (vector .entry)) (now (bytes .entry))) r (now (vector .exit)) (now (bytes .exit)) (now (t .entry)) (now (t .exit)) ⌝ }
 {
     let left = machine::launch(l, kernel, vector, bytes);
     let w = left.warp;
@@ -94,7 +94,7 @@ fn unmarked(why: Refusal) -> Marked
 
 // What the sheet is worth against the launch's run, and how many steps that run has.
 pub fn mark(l: Launch, kernel: &[u32], vector: &mut [u32], bytes: &mut [u8], sheet: &[u8]) -> Marked
-    ensures { λ r. ⌜ marking (numberOf (r .answer)) (r .marks) (r .steps) (lent (now (vector .exit)) (now (bytes .exit))) ≡ markOf (now (kernel .entry)) l (now (vector .entry)) (now (bytes .entry)) (now (sheet .entry)) ⌝ }
+    ensures { λ r. ⌜ marking (numberOf (r .answer)) (r .marks) (r .steps) (lentRuns (now (vector .exit)) (now (bytes .exit))) ≡ markOf (now (kernel .entry)) l (now (vector .entry)) (now (bytes .entry)) (now (sheet .entry)) ⌝ }
 {
     if !may_launch(l, kernel, vector, bytes) {
         return unmarked(Refusal::Size);
@@ -135,7 +135,7 @@ pub fn model(
     bytes: &mut [u8],
     target: &mut [u8],
 ) -> Modelled
-    ensures { λ r. ⌜ modelling (numberOf (r .answer)) (r .written) (now (target .exit)) (lent (now (vector .exit)) (now (bytes .exit))) ≡ modelOf (now (kernel .entry)) l (now (vector .entry)) (now (bytes .entry)) (now (target .entry)) ⌝ }
+    ensures { λ r. ⌜ modelling (numberOf (r .answer)) (r .written) (now (target .exit)) (lentRuns (now (vector .exit)) (now (bytes .exit))) ≡ modelOf (now (kernel .entry)) l (now (vector .entry)) (now (bytes .entry)) (now (target .entry)) ⌝ }
 {
     if !may_launch(l, kernel, vector, bytes) {
         return unwritten(Refusal::Size);

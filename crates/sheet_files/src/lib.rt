@@ -7,8 +7,8 @@ ghost use mathlib.Core.Path.{_≡_};
 ghost use Rattle.answer.specs.Answer.{numberOf};
 ghost use Rattle.io.specs.Counts.{Counts};
 ghost use Rattle.sheet_lines.specs.Compare.{marksStep};
-ghost use Rattle.sheet.specs.Mark.{lent, marking, modelling};
-ghost use Rattle.sheet_files.specs.SheetFiles.{markedOf, modelledOf, lined, buffersOkOf, markFilesOf};
+ghost use Rattle.sheet.specs.Mark.{lentRuns, marking, modelling};
+ghost use Rattle.sheet_files.specs.SheetFiles.{markedOf, modelledOf, lined, lineBuffersOk, markFilesOf};
 
 const FILE_WORDS: usize = 1024;
 
@@ -27,7 +27,7 @@ fn mark_run(
     vector: &mut [u32],
     sheet: &[u8],
 ) -> Marked
-    ensures { λ r. ⌜ marking (numberOf (r .answer)) (r .marks) (r .steps) (lent (now (vector .exit)) (now (bytes .exit))) ≡ markedOf (now (card .entry)) (now (kernel .entry)) (now (bytes .entry)) (now (vector .entry)) (now (sheet .entry)) ⌝ }
+    ensures { λ r. ⌜ marking (numberOf (r .answer)) (r .marks) (r .steps) (lentRuns (now (vector .exit)) (now (bytes .exit))) ≡ markedOf (now (card .entry)) (now (kernel .entry)) (now (bytes .entry)) (now (vector .entry)) (now (sheet .entry)) ⌝ }
 {
     let read = launch_files::read_files(card, kernel, bytes);
     let a = read.answer;
@@ -47,7 +47,7 @@ fn mark_run(
 
 // A whole vector file, and room for every line of the name.
 fn buffers_ok(vector: &[u32], name: &[u8], out: &[u8]) -> bool
-    ensures { λ r. ⌜ r ≡ buffersOkOf (now (vector .entry)) (now (name .entry)) (now (out .entry)) ⌝ }
+    ensures { λ r. ⌜ r ≡ lineBuffersOk (now (vector .entry)) (now (name .entry)) (now (out .entry)) ⌝ }
 {
     let room = sheet_text::room_for(name, out);
     (vector.len() == FILE_WORDS) & room
@@ -63,7 +63,7 @@ pub fn mark_files(
     name: &[u8],
     out: &mut [u8],
 ) -> Line
-    ensures { λ r. ⌜ Counts (r .size) (now (out .exit)) × (lined (r .size) (r .number) (r .step) (now (out .exit)) (lent (now (vector .exit)) (now (bytes .exit))) ≡ markFilesOf (now (card .entry)) (now (kernel .entry)) (now (bytes .entry)) (now (vector .entry)) (now (sheet .entry)) (now (name .entry)) (now (out .entry))) ⌝ }
+    ensures { λ r. ⌜ Counts (r .size) (now (out .exit)) × (lined (r .size) (r .number) (r .step) (now (out .exit)) (lentRuns (now (vector .exit)) (now (bytes .exit))) ≡ markFilesOf (now (card .entry)) (now (kernel .entry)) (now (bytes .entry)) (now (vector .entry)) (now (sheet .entry)) (now (name .entry)) (now (out .entry))) ⌝ }
 {
     if !buffers_ok(vector, name, out) {
         return Line {
@@ -90,7 +90,7 @@ pub fn model_files(
     vector: &mut [u32],
     target: &mut [u8],
 ) -> Modelled
-    ensures { λ r. ⌜ modelling (numberOf (r .answer)) (r .written) (now (target .exit)) (lent (now (vector .exit)) (now (bytes .exit))) ≡ modelledOf (now (card .entry)) (now (kernel .entry)) (now (bytes .entry)) (now (vector .entry)) (now (target .entry)) ⌝ }
+    ensures { λ r. ⌜ modelling (numberOf (r .answer)) (r .written) (now (target .exit)) (lentRuns (now (vector .exit)) (now (bytes .exit))) ≡ modelledOf (now (card .entry)) (now (kernel .entry)) (now (bytes .entry)) (now (vector .entry)) (now (target .entry)) ⌝ }
 {
     let read = launch_files::read_files(card, kernel, bytes);
     let a = read.answer;

@@ -11,7 +11,7 @@ use borrow.Author.Tests.{eqb-true, eq-eqb}
 use Rattle.answer.proofs.Rows.{both}
 use Rattle.sheet_lines.specs.declared.Marks.{Marks}
 use Rattle.sheet_lines.specs.declared.Marks.the-variants.{Full, Differs, Short, Long}
-use Rattle.sheet_lines.specs.Sheet.{headSize, lineSize, sizeOf, linesAt}
+use Rattle.sheet_lines.specs.Sheet.{headSize, lineSize, sheetSize, linesAt}
 use Rattle.sheet_lines.specs.Compare.{sameOf, compareOf}
 
 -- the test of two lines is whether they are equal
@@ -45,18 +45,18 @@ module _ (i : ℕ) (a b : List ℕ) (own given : List (List ℕ)) where
 -- ---- in two buffers: what is left of them decides as the whole does. Line i, from 0, begins where a sheet of i steps ends
 
 -- as the code has a line's width
-pub width : (i : ℕ) → sizeOf i + lineSize - sizeOf i ≡ lineSize
+pub width : (i : ℕ) → sheetSize i + lineSize - sheetSize i ≡ lineSize
 width i = omega arith
 
 abbrev pub rest : List ℕ → ℕ → ℕ → List (List ℕ)
-rest s n i = linesAt (n - i) s (sizeOf i)
+rest s n i = linesAt (n - i) s (sheetSize i)
 
-pub rest-next : (s : List ℕ) (n i : ℕ) → i < n → rest s n i ≡ take lineSize (drop (sizeOf i) s) ∷ rest s n (i + 1)
+pub rest-next : (s : List ℕ) (n i : ℕ) → i < n → rest s n i ≡ take lineSize (drop (sheetSize i) s) ∷ rest s n (i + 1)
 unfolding linesAt
 rest-next s n i h =
     let e : n - i ≡ suc (n - (i + 1)) = omega arith in
-    let f : sizeOf i + lineSize ≡ sizeOf (i + 1) = omega arith in
-    rw e (ap (λ (j : ℕ). take lineSize (drop (sizeOf i) s) ∷ linesAt (n - (i + 1)) s j) f)
+    let f : sheetSize i + lineSize ≡ sheetSize (i + 1) = omega arith in
+    rw e (ap (λ (j : ℕ). take lineSize (drop (sheetSize i) s) ∷ linesAt (n - (i + 1)) s j) f)
 
 pub rest-none : (s : List ℕ) (n i : ℕ) → n ≤ i → rest s n i ≡ []
 unfolding linesAt
@@ -71,10 +71,10 @@ module _ (a b : List ℕ) (n m : ℕ) where
   alike-none = rw (sub-zero, sub-zero)
 
   abbrev lineA : ℕ → List ℕ
-  lineA i = take lineSize (drop (sizeOf i) a)
+  lineA i = take lineSize (drop (sheetSize i) a)
 
   abbrev lineB : ℕ → List ℕ
-  lineB i = take lineSize (drop (sizeOf i) b)
+  lineB i = take lineSize (drop (sheetSize i) b)
 
   next : (i : ℕ) → i < n → i < m → compareOf (i + 1) (rest a n i) (rest b m i) ≡ compareOf (i + 1) (lineA i ∷ rest a n (i + 1)) (lineB i ∷ rest b m (i + 1))
   next i h g = ap₂ (compareOf (i + 1)) (rest-next a n i h) (rest-next b m i g)

@@ -12,7 +12,7 @@ use Rattle.big_endian.specs.Layout.{bytesOf}
 use Rattle.big_endian.proofs.LayoutLaws.{layout-length}
 use Rattle.definition.specs.State.{State, placeOf}
 use Rattle.definition.specs.Step.{stepOf}
-use Rattle.sheet_lines.specs.Sheet.{lineSize, lineValues, lineOf, linesOf, linesAt}
+use Rattle.sheet_lines.specs.Sheet.{lineSize, lineValues, lineBytes, linesOf, linesAt}
 
 -- each has 13 bytes
 abbrev pub Lines : List (List ℕ) → Type 0
@@ -43,17 +43,17 @@ lines-back (a ∷ ls) h p q =
 
 -- ---- a run's own lines
 
-pub line-length : (k : List ℕ) (m n : State) → length (lineOf k m n) ≡ lineSize
-unfolding lineOf
+pub line-length : (k : List ℕ) (m n : State) → length (lineBytes k m n) ≡ lineSize
+unfolding lineBytes
 line-length k m n = layout-length (lineValues _ _ _ _)
 
 -- with the word that was read
-pub line-is : (k : List ℕ) (m n : State) (w : ℕ) → w ≡ getD k (placeOf (m .warp)) 0 → bytesOf (lineValues (m .warp .pc) w (n .warp .mask) (n .warp .depth)) ≡ lineOf k m n
-unfolding lineOf
+pub line-is : (k : List ℕ) (m n : State) (w : ℕ) → w ≡ getD k (placeOf (m .warp)) 0 → bytesOf (lineValues (m .warp .pc) w (n .warp .mask) (n .warp .depth)) ≡ lineBytes k m n
+unfolding lineBytes
 line-is k m n w e = rw e
 
 module _ (k : List ℕ) (n : ℕ) (m : State) where
-  pub lines-taken : stepOf k m .code ≡ 0 → linesOf k (suc n) m ≡ lineOf k m (stepOf k m .left) ∷ linesOf k n (stepOf k m .left)
+  pub lines-taken : stepOf k m .code ≡ 0 → linesOf k (suc n) m ≡ lineBytes k m (stepOf k m .left) ∷ linesOf k n (stepOf k m .left)
   unfolding linesOf
   lines-taken z = rw (eq-eqb _ _ z)
 
@@ -66,7 +66,7 @@ unfolding linesOf
 own-lines k zero m = record {}
 own-lines k (suc n) m = go (eqb (stepOf k m .code) 0) (own-lines k n (stepOf k m .left))
   where
-    go : (t : Bool) → Lines (linesOf k n (stepOf k m .left)) → Lines (cond t (lineOf k m (stepOf k m .left) ∷ linesOf k n (stepOf k m .left)) [])
+    go : (t : Bool) → Lines (linesOf k n (stepOf k m .left)) → Lines (cond t (lineBytes k m (stepOf k m .left) ∷ linesOf k n (stepOf k m .left)) [])
     go true h = (line-length k m (stepOf k m .left), h)
     go false h = record {}
 
@@ -75,6 +75,6 @@ unfolding linesOf
 lines-few k zero m = omega arith
 lines-few k (suc n) m = go (eqb (stepOf k m .code) 0) (lines-few k n (stepOf k m .left))
   where
-    go : (t : Bool) → length (linesOf k n (stepOf k m .left)) ≤ n → length (cond t (lineOf k m (stepOf k m .left) ∷ linesOf k n (stepOf k m .left)) []) ≤ suc n
+    go : (t : Bool) → length (linesOf k n (stepOf k m .left)) ≤ n → length (cond t (lineBytes k m (stepOf k m .left) ∷ linesOf k n (stepOf k m .left)) []) ≤ suc n
     go true h = omega arith
     go false h = omega arith

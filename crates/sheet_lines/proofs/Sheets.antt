@@ -11,20 +11,20 @@ use borrow.Author.Tests.{leb-true}
 use Rattle.answer.proofs.Rows.{every-at}
 use Rattle.big_endian.specs.BigEndian.{beBytes}
 use Rattle.big_endian.proofs.BigEndianLaws.{length-be}
-use Rattle.sheet_lines.specs.Sheet.{headSize, sheetVersion, stepLimit, lengthOf, sizeOf, headOf, sheetOf, stepsIn, lengthIn, versionIn, sheetOkOf, linesAt}
+use Rattle.sheet_lines.specs.Sheet.{headSize, sheetVersion, stepLimit, lengthOf, sheetSize, headOf, sheetOf, stepsIn, lengthIn, versionIn, sheetOkOf, linesAt}
 use Rattle.sheet_lines.proofs.Lines.{Lines, flatten-length, lines-back}
 
 pub head-length : (n : ℕ) → length (headOf n) ≡ headSize
 unfolding headOf
 head-length n = length-append (beBytes 4 (lengthOf n)) (beBytes 1 sheetVersion) ∙ ap₂ _+_ (length-be 4 (lengthOf n)) (length-be 1 sheetVersion)
 
-pub sheet-length : (ls : List (List ℕ)) → Lines ls → length (sheetOf ls) ≡ sizeOf (length ls)
+pub sheet-length : (ls : List (List ℕ)) → Lines ls → length (sheetOf ls) ≡ sheetSize (length ls)
 unfolding sheetOf
 sheet-length ls h = length-append (headOf (length ls)) (flatten ls) ∙ ap₂ _+_ (head-length (length ls)) (flatten-length ls h)
 
 -- ---- in a target t
 
-module _ (t : List ℕ) (ls : List (List ℕ)) (h : Lines ls) (fits : sizeOf (length ls) ≤ length t) where
+module _ (t : List ℕ) (ls : List (List ℕ)) (h : Lines ls) (fits : sheetSize (length ls) ≤ length t) where
   abbrev body : List ℕ
   body = flatten ls
 

@@ -32,8 +32,8 @@ stepLimit = 4096
 abbrev pub lengthOf : ℕ → ℕ
 lengthOf n = 1 + lineSize * n
 
-abbrev pub sizeOf : ℕ → ℕ
-sizeOf n = headSize + lineSize * n
+abbrev pub sheetSize : ℕ → ℕ
+sheetSize n = headSize + lineSize * n
 
 -- ---- the sheet of a run
 
@@ -41,15 +41,15 @@ abbrev pub lineValues : ℕ → ℕ → ℕ → ℕ → Values line
 lineValues pc word mask splits = pc ▹ word ▹ mask ▹ splits ▹ end
 
 -- the line of kernel k's step from the state m, which leaves the state n
-unfoldable pub lineOf : List ℕ → State → State → List ℕ
-lineOf k m n = bytesOf (lineValues (m .warp .pc) (getD k (placeOf (m .warp)) 0) (n .warp .mask) (n .warp .depth))
+unfoldable pub lineBytes : List ℕ → State → State → List ℕ
+lineBytes k m n = bytesOf (lineValues (m .warp .pc) (getD k (placeOf (m .warp)) 0) (n .warp .mask) (n .warp .depth))
 
 -- the lines of at most n steps from the state m on, to the first refusal
 unfoldable pub linesOf : List ℕ → ℕ → State → List (List ℕ)
 linesOf k zero m = []
 linesOf k (suc n) m =
     let o : Outcome = stepOf k m in
-    cond (eqb (o .code) 0) (lineOf k m (o .left) ∷ linesOf k n (o .left)) []
+    cond (eqb (o .code) 0) (lineBytes k m (o .left) ∷ linesOf k n (o .left)) []
 
 -- the head of a sheet of n steps, and the sheet of the lines
 unfoldable pub headOf : ℕ → List ℕ

@@ -6,7 +6,7 @@ ghost use lib.ListN.{length, getD};
 ghost use lib.Seq.{sets};
 ghost use Rattle.big_endian.specs.Layout.{bytesOf};
 ghost use Rattle.definition.specs.State.{placeOf};
-ghost use Rattle.sheet_lines.specs.Sheet.{headSize, lineSize, stepLimit, sizeOf, lineValues, headOf, stepsIn, sheetOkOf, linesAt};
+ghost use Rattle.sheet_lines.specs.Sheet.{headSize, lineSize, stepLimit, sheetSize, lineValues, headOf, stepsIn, sheetOkOf, linesAt};
 ghost use Rattle.sheet_lines.specs.Compare.{marksNumber, marksStep, compareOf};
 
 pub const HEAD_SIZE: usize = 5;
@@ -129,7 +129,7 @@ pub fn sheet_ok(s: &[u8]) -> bool
 
 // Line by line: n lines of the run's own sheet, m of the one handed in.
 pub fn compare(own: &[u8], n: usize, sheet: &[u8], m: usize) -> Marks
-    requires { ⌜ (n ≤ stepLimit) × (sizeOf n ≤ length (now own)) × (sizeOf m ≤ length (now sheet)) ⌝ }
+    requires { ⌜ (n ≤ stepLimit) × (sheetSize n ≤ length (now own)) × (sheetSize m ≤ length (now sheet)) ⌝ }
     ensures { λ r. ⌜ r ≡ compareOf 1 (linesAt n (now (own .entry)) headSize) (linesAt m (now (sheet .entry)) headSize) ⌝ }
 {
     let mut i = 0;

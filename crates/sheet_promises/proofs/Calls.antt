@@ -16,10 +16,10 @@ use Rattle.promises.proofs.Refusals.{is-zero}
 use Rattle.promises.proofs.Determined.{determined-whole}
 use Rattle.sheet_lines.specs.declared.Marks.{Marks}
 use Rattle.sheet_lines.specs.declared.Marks.the-variants.{NoMarks}
-use Rattle.sheet.specs.Mark.{lent, markTests, markOf, modelTests, modelOf}
+use Rattle.sheet.specs.Mark.{lentRuns, markTests, markOf, modelTests, modelOf}
 use Rattle.capi_sheet.specs.Calls.{fitted, marksWords, callNumber, MarkCalled, markCalled, markCallOf, SheetCalled, sheetCalled, sheetCallOf}
 use Rattle.sheet_promises.specs.Calls.{MarkCallAnswers, SheetCallAnswers, MarkCallBlank, SheetCallBlank, MarkCallRoom, MarkCallDetermined, SheetCallDetermined}
-use Rattle.sheet_promises.proofs.Marks.{mark-number, mark-none, model-number, model-unwritten}
+use Rattle.sheet_promises.proofs.Marks.{mark-number, refused-unmarked, model-number, model-unwritten}
 
 -- ---- answers
 
@@ -50,7 +50,7 @@ pub mark-call-blank : MarkCallBlank
 unfolding markCallOf
 mark-call-blank c k v d s r =
     by-cond (λ (x : MarkCalled). (x .number ≡ 0 → ⊥) → x .result ≡ fitted (marksWords NoMarks) r) (eqb (callNumber (readCardOf c) 2 r) 0) _ _
-    (λ z h. ap (λ (m : Marks). fitted (marksWords m) r) (mark-none k (readCardOf c .launch) v d s h)) (λ z h. refl)
+    (λ z h. ap (λ (m : Marks). fitted (marksWords m) r) (refused-unmarked k (readCardOf c .launch) v d s h)) (λ z h. refl)
 
 pub sheet-call-blank : SheetCallBlank
 unfolding sheetCallOf

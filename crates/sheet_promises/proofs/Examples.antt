@@ -17,16 +17,16 @@ use Rattle.big_endian.specs.BigEndian.{beBytes}
 use Rattle.card.proofs.Cases.{example}
 use Rattle.sheet_lines.specs.declared.Marks.{Marks}
 use Rattle.sheet_lines.specs.declared.Marks.the-variants.{NoMarks, Full, Differs, Short, Long}
-use Rattle.sheet_lines.specs.Sheet.{lineOf, linesOf, headOf, sheetOf, sheetOkOf, linesAt}
+use Rattle.sheet_lines.specs.Sheet.{lineBytes, linesOf, headOf, sheetOf, sheetOkOf, linesAt}
 use Rattle.sheet_lines.specs.Compare.{compareOf}
-use Rattle.sheet.specs.Mark.{ownOf, endOf, lent, lentOf, marking, markOf}
+use Rattle.sheet.specs.Mark.{ownOf, ownEnd, lentRuns, lentRunsOf, marking, markOf}
 
 abbrev kernel : List ℕ
 kernel = 0x0000400b ∷ []
 
 -- what marking the sheet s answers, with a vector file that is not clear
 abbrev Answers : List ℕ → List ℕ → ℕ → Marks → ℕ → List ℕ → Type 0
-Answers k s n m t v = markOf k example (replicate fileWords 7) [] s ≡ marking n m t (lent v [])
+Answers k s n m t v = markOf k example (replicate fileWords 7) [] s ≡ marking n m t (lentRuns v [])
 
 -- PC 80000000, word 0000400b, mask f, no split open
 abbrev line : List ℕ
@@ -46,10 +46,10 @@ marked-class : Answers kernel model 0 Full 1 cleared
     × Answers kernel [] 16 NoMarks 0 (replicate fileWords 7)
     × Answers kernel (set model 3 18) 16 NoMarks 0 (replicate fileWords 7)
     × Answers (0 ∷ []) model 17 NoMarks 0 cleared
-unfolding markOf ownOf endOf lentOf linesOf lineOf sheetOkOf linesAt compareOf launchOf runOf stepsOf stepOf runsOkOf refusalsOf effectOf wellFormedOf fixedOkOf chainOf splitOkOf allZero bitAt decodeOf stopWord endPrgWord beBytes
+unfolding markOf ownOf ownEnd lentRunsOf linesOf lineBytes sheetOkOf linesAt compareOf launchOf runOf stepsOf stepOf runsOkOf refusalsOf effectOf wellFormedOf fixedOkOf chainOf splitOkOf allZero bitAt decodeOf stopWord endPrgWord beBytes
 marked-class = (refl, refl, refl, refl, refl, refl, refl)
 
 -- and the run's own sheet is that
 own-sheet : sheetOf (ownOf kernel example cleared []) ≡ model
-unfolding sheetOf headOf flatten ownOf endOf linesOf lineOf launchOf stepOf runsOkOf refusalsOf effectOf wellFormedOf fixedOkOf chainOf splitOkOf allZero bitAt decodeOf stopWord endPrgWord beBytes
+unfolding sheetOf headOf flatten ownOf ownEnd linesOf lineBytes launchOf stepOf runsOkOf refusalsOf effectOf wellFormedOf fixedOkOf chainOf splitOkOf allZero bitAt decodeOf stopWord endPrgWord beBytes
 own-sheet = refl

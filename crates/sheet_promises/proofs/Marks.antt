@@ -26,14 +26,14 @@ use Rattle.promises.proofs.Determined.{determined-whole}
 use Rattle.promises.specs.Determined.{ShowsAll}
 use Rattle.sheet_lines.specs.declared.Marks.{Marks}
 use Rattle.sheet_lines.specs.declared.Marks.the-variants.{NoMarks, Full}
-use Rattle.sheet_lines.specs.Sheet.{headSize, stepLimit, sizeOf, sheetOf, sheetOkOf, stepsIn, linesIn}
+use Rattle.sheet_lines.specs.Sheet.{headSize, stepLimit, sheetSize, sheetOf, sheetOkOf, stepsIn, linesIn}
 use Rattle.sheet_lines.specs.Compare.{marksNumber, compareOf}
 use Rattle.sheet_lines.proofs.Lines.{Lines, own-lines, lines-few}
 use Rattle.sheet_lines.proofs.Sheets.{sheet-length}
-use Rattle.sheet.specs.Mark.{startOf, ownOf, endOf, noSteps, Lent, lent, lentOf, Marking, marking, markTests, markOf, Modelling, modelling, modelTests, modelOf, roomNeeded}
+use Rattle.sheet.specs.Mark.{ownStart, ownOf, ownEnd, noSteps, LentRuns, lentRuns, lentRunsOf, Marking, marking, markTests, markOf, Modelling, modelling, modelTests, modelOf, sheetRoom}
 use Rattle.sheet_promises.specs.Sheets.{AllBytes}
-use Rattle.sheet_promises.specs.Marks.{writtenOf, FullExactly, ModelFull, EmptyRefused, EmptyNever, NoStepsNever, CutNever, Says, MarkSays, MarkAnswers, ModelAnswers, ranLent, Leaves, MarkLeaves, ModelLeaves, TargetKept, TargetWritten, MarkLeft, ModelLeft, markSeen, modelSeen, MarkDetermined, ModelDetermined}
-use Rattle.sheet_promises.proofs.RoundTrip.{formed, lines-long, sheet-back, sheet-formed, sheet-lines}
+use Rattle.sheet_promises.specs.Marks.{writtenOf, FullExactly, ModelFull, EmptyRefused, EmptyNever, NoStepsNever, CutNever, Says, MarkSays, MarkAnswers, ModelAnswers, ranLent, LeftBy, MarkLeaves, ModelLeaves, TargetKept, TargetWritten, MarkLeft, ModelLeft, markSeen, modelSeen, MarkDetermined, ModelDetermined}
+use Rattle.sheet_promises.proofs.RoundTrip.{sheet-says, lines-long, sheet-back, sheet-formed, sheet-lines}
 use Rattle.sheet_promises.proofs.Compares.{says}
 
 -- ---- the numbers, by the tests: a and b a launch's, c the sheet's or the target's with its number n, e that of a run of no steps
@@ -101,21 +101,21 @@ module _ (k : List ℕ) (l : Launch) (v d : List ℕ) where
 
   own-sized : Lines own
   unfolding ownOf
-  own-sized = own-lines k stepLimit (startOf k l v d)
+  own-sized = own-lines k stepLimit (ownStart k l v d)
 
   own-few : length own ≤ stepLimit
   unfolding ownOf
-  own-few = lines-few k stepLimit (startOf k l v d)
+  own-few = lines-few k stepLimit (ownStart k l v d)
 
   -- the number n, and what is left
-  leaves : (n : ℕ) (e : Lent) → e ≡ lentOf n k l v d → (n ≡ 17 → launchOf k l v d .code ≡ 0) → Leaves k l v d n e
-  unfolding lentOf endOf
+  leaves : (n : ℕ) (e : LentRuns) → e ≡ lentRunsOf n k l v d → (n ≡ 17 → launchOf k l v d .code ≡ 0) → LeftBy k l v d n e
+  unfolding lentRunsOf ownEnd
   leaves n e is h =
       record {
-        done = λ z. is ∙ ap (λ (i : ℕ). lentOf i k l v d) z;
-        size = λ z. is ∙ ap (λ (i : ℕ). lentOf i k l v d) z;
-        sheet = λ z. is ∙ ap (λ (i : ℕ). lentOf i k l v d) z;
-        none = λ z. is ∙ ap (λ (i : ℕ). lentOf i k l v d) z ∙ ap (λ (o : Outcome). lent (o .left .vector) (o .left .bytes)) (launched (h z));
+        done = λ z. is ∙ ap (λ (i : ℕ). lentRunsOf i k l v d) z;
+        size = λ z. is ∙ ap (λ (i : ℕ). lentRunsOf i k l v d) z;
+        sheet = λ z. is ∙ ap (λ (i : ℕ). lentRunsOf i k l v d) z;
+        none = λ z. is ∙ ap (λ (i : ℕ). lentRunsOf i k l v d) z ∙ ap (λ (o : Outcome). lentRuns (o .left .vector) (o .left .bytes)) (launched (h z));
       }
 
   -- ---- marking the sheet s
@@ -131,20 +131,20 @@ module _ (k : List ℕ) (l : Launch) (v d : List ℕ) where
     unfolding markOf
     mark-number = by-cond (λ (r : Marking). r .number ≡ markNumber) (eqb markNumber 0) _ _ (λ z. refl) (λ z. refl)
 
-    mark-left : marked .left ≡ lentOf (marked .number) k l v d
+    mark-left : marked .left ≡ lentRunsOf (marked .number) k l v d
     unfolding markOf
-    mark-left = by-cond (λ (r : Marking). r .left ≡ lentOf (r .number) k l v d) (eqb markNumber 0) _ _ (λ z. refl) (λ z. refl)
+    mark-left = by-cond (λ (r : Marking). r .left ≡ lentRunsOf (r .number) k l v d) (eqb markNumber 0) _ _ (λ z. refl) (λ z. refl)
 
     mark-taken : marked .number ≡ 0 → marked .marks ≡ compareOf 1 own (linesIn s)
     unfolding markOf
     mark-taken z = let y = sym mark-number ∙ z in rw y
 
-    mark-refused : (n : ℕ) → (n ≡ 0 → ⊥) → markNumber ≡ n → marked ≡ marking n NoMarks 0 (lentOf n k l v d)
+    mark-refused : (n : ℕ) → (n ≡ 0 → ⊥) → markNumber ≡ n → marked ≡ marking n NoMarks 0 (lentRunsOf n k l v d)
     unfolding markOf
     mark-refused n h y = rw (y, ne-eqb n 0 h)
 
-    pub mark-none : (marked .number ≡ 0 → ⊥) → marked .marks ≡ NoMarks
-    mark-none z = ap (λ (r : Marking). r .marks) (mark-refused markNumber (λ y. z (mark-number ∙ y)) refl)
+    pub refused-unmarked : (marked .number ≡ 0 → ⊥) → marked .marks ≡ NoMarks
+    refused-unmarked z = ap (λ (r : Marking). r .marks) (mark-refused markNumber (λ y. z (mark-number ∙ y)) refl)
 
     mark-zero : Iff (marked .number ≡ 0) ((launchOf k l v d .code ≡ 0) × (sheetOkOf s ≡ true) × (none ≡ false))
     mark-zero = rw (mark-number, launch-number) (zero-by 16 (λ z. omega arith) sizes (launchOkOf l) (sheetOkOf s) none)
@@ -153,17 +153,17 @@ module _ (k : List ℕ) (l : Launch) (v d : List ℕ) where
     mark-sheet = rw (mark-number, launch-number) (sheet-by sizes (launchOkOf l) (sheetOkOf s) none)
 
     full-number : marked .marks ≡ Full → marked .number ≡ 0
-    full-number e = is-zero (marked .number) (λ z. z) (λ z. absurd (omega (arith, ap marksNumber (sym (mark-none z) ∙ e))))
+    full-number e = is-zero (marked .number) (λ z. z) (λ z. absurd (omega (arith, ap marksNumber (sym (refused-unmarked z) ∙ e))))
 
     full-lines : marked .marks ≡ Full → own ≡ linesIn s
     full-lines e = says own (linesIn s) .full .0 (sym (mark-taken (full-number e)) ∙ e)
 
     -- a sheet with full marks has the model sheet's length, and some steps
-    full-size : marked .marks ≡ Full → (length s ≡ sizeOf (length own)) × (length own ≡ 0 → ⊥)
+    full-size : marked .marks ≡ Full → (length s ≡ sheetSize (length own)) × (length own ≡ 0 → ⊥)
     full-size e =
         let q = mark-zero .0 (full-number e) in
         let n : length own ≡ stepsIn s = ap length (full-lines e) ∙ lines-long (stepsIn s) s headSize in
-        (formed s (q .1) .total ∙ ap sizeOf (sym n), eqb-false _ _ (q .2))
+        (sheet-says s (q .1) .total ∙ ap sheetSize (sym n), eqb-false _ _ (q .2))
 
   -- the model sheet gets full marks
   own-full : launchOf k l v d .code ≡ 0 → none ≡ false → markOf k l v d (sheetOf own) .marks ≡ Full
@@ -178,7 +178,7 @@ module _ (k : List ℕ) (l : Launch) (v d : List ℕ) where
     modelled = modelOf k l v d t
 
     abbrev room : Bool
-    room = leb roomNeeded (length t)
+    room = leb sheetRoom (length t)
 
     abbrev modelNumber : ℕ
     modelNumber = numberBy 1 sizes (launchOkOf l) room none
@@ -187,9 +187,9 @@ module _ (k : List ℕ) (l : Launch) (v d : List ℕ) where
     unfolding modelOf
     model-number = by-cond (λ (r : Modelling). r .number ≡ modelNumber) (eqb modelNumber 0) _ _ (λ z. refl) (λ z. refl)
 
-    model-left : modelled .left ≡ lentOf (modelled .number) k l v d
+    model-left : modelled .left ≡ lentRunsOf (modelled .number) k l v d
     unfolding modelOf
-    model-left = by-cond (λ (r : Modelling). r .left ≡ lentOf (r .number) k l v d) (eqb modelNumber 0) _ _ (λ z. refl) (λ z. refl)
+    model-left = by-cond (λ (r : Modelling). r .left ≡ lentRunsOf (r .number) k l v d) (eqb modelNumber 0) _ _ (λ z. refl) (λ z. refl)
 
     model-zero : Iff (modelled .number ≡ 0) ((launchOf k l v d .code ≡ 0) × (room ≡ true) × (none ≡ false))
     model-zero = rw (model-number, launch-number) (zero-by 1 (λ z. omega arith) sizes (launchOkOf l) room none)
@@ -211,7 +211,7 @@ module _ (k : List ℕ) (l : Launch) (v d : List ℕ) where
       model-size = rw taken
 
       fits : length (sheetOf own) ≤ length t
-      fits = omega (arith, leb-true roomNeeded (length t) (model-zero .0 z .1), sheet-length own own-sized, own-few)
+      fits = omega (arith, leb-true sheetRoom (length t) (model-zero .0 z .1), sheet-length own own-sized, own-few)
 
       model-target : modelled .target ≡ sheetOf own ++ drop (length (sheetOf own)) t
       unfolding modelOf
@@ -244,7 +244,7 @@ unfolding sheetOkOf
 empty-malformed = refl
 
 pub empty-refused : EmptyRefused
-unfolding lentOf
+unfolding lentRunsOf
 empty-refused k l v d z =
     let y = sym (mark-number k l v d []) ∙ mark-sheet k l v d [] .1 (z, empty-malformed) in
     mark-refused k l v d [] 16 (λ e. omega arith) y
@@ -281,11 +281,11 @@ mark-answers k l v d s =
 pub model-answers : ModelAnswers
 model-answers k l v d t =
     let i = model-zero k l v d t in
-    let j = rw (← model-number k l v d t, ← launch-number k l v d) at (none-by 1 (λ z. omega arith) (sizes k l v d) (launchOkOf l) (leb roomNeeded (length t)) (none k l v d)) in
+    let j = rw (← model-number k l v d t, ← launch-number k l v d) at (none-by 1 (λ z. omega arith) (sizes k l v d) (launchOkOf l) (leb sheetRoom (length t)) (none k l v d)) in
     record {
       done = (λ z. let q = i .0 z in (q .0, leb-true _ _ (q .1), q .2), λ q. i .1 (q .0, le-leb _ _ (q .1), q .2));
       none = (λ z. let q = j .0 z in (q .0, leb-true _ _ (q .1), q .2), λ q. j .1 (q .0, le-leb _ _ (q .1), q .2));
-      others = rw (model-number k l v d t) (others-by (sizes k l v d) (launchOkOf l) (leb roomNeeded (length t)) (none k l v d));
+      others = rw (model-number k l v d t) (others-by (sizes k l v d) (launchOkOf l) (leb sheetRoom (length t)) (none k l v d));
     }
 
 -- ---- what is left

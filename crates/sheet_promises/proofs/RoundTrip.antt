@@ -11,22 +11,22 @@ use borrow.Author.Tests.{eqb-true, leb-true, eq-eqb, le-leb}
 use Rattle.answer.proofs.Rows.{every-at}
 use Rattle.big_endian.specs.BigEndian.{beAt, beBytes}
 use Rattle.big_endian.proofs.BigEndianLaws.{length-be, bytes-at, at-bytes}
-use Rattle.sheet_lines.specs.Sheet.{headSize, sheetVersion, lineSize, stepLimit, lengthOf, sizeOf, headOf, sheetOf, stepsIn, lengthIn, versionIn, sheetOkOf, linesAt, linesIn}
+use Rattle.sheet_lines.specs.Sheet.{headSize, sheetVersion, lineSize, stepLimit, lengthOf, sheetSize, headOf, sheetOf, stepsIn, lengthIn, versionIn, sheetOkOf, linesAt, linesIn}
 use Rattle.sheet_lines.proofs.Lines.{Lines, lines-back}
 use Rattle.sheet_lines.proofs.Sheets.{head-length, sheet-length}
 use Rattle.sheet_promises.specs.Sheets.{AllBytes}
 
 -- ---- what a well-formed sheet says
 
-pub record Formed (s : List ℕ) : Type 0 where
+pub record SheetSays (s : List ℕ) : Type 0 where
   pub version : versionIn s ≡ sheetVersion
   pub size : lengthIn s ≡ lengthOf (stepsIn s)
-  pub total : length s ≡ sizeOf (stepsIn s)
+  pub total : length s ≡ sheetSize (stepsIn s)
   pub few : stepsIn s ≤ stepLimit
 
-pub formed : (s : List ℕ) → sheetOkOf s ≡ true → Formed s
+pub sheet-says : (s : List ℕ) → sheetOkOf s ≡ true → SheetSays s
 unfolding sheetOkOf
-formed s e =
+sheet-says s e =
     let ts : List Bool = leb headSize (length s) ∷ eqb (versionIn s) sheetVersion ∷ eqb (lengthIn s) (length s - 4) ∷ eqb (lengthIn s) (lengthOf (stepsIn s)) ∷ leb (stepsIn s) stepLimit ∷ [] in
     let h = leb-true headSize (length s) (every-at ts e 0) in
     let p : lengthIn s ≡ length s - 4 = eqb-true _ _ (every-at ts e 2) in
@@ -50,7 +50,7 @@ flatten-lines (suc n) s i e =
 pub sheet-back : (s : List ℕ) → AllBytes s → sheetOkOf s ≡ true → sheetOf (linesIn s) ≡ s
 unfolding sheetOf headOf
 sheet-back s h ok =
-    let f = formed s ok in
+    let f = sheet-says s ok in
     let n : ℕ = stepsIn s in
     ap₂ (λ (a b : List ℕ). a ++ beBytes 1 sheetVersion ++ b) (ap (λ (i : ℕ). beBytes 4 (lengthOf i)) (lines-long n s headSize)) (flatten-lines n s headSize (sym (f .total)))
     ∙ append-assoc (beBytes 4 (lengthOf n)) (beBytes 1 sheetVersion) (drop headSize s)
@@ -67,7 +67,7 @@ module _ (ls : List (List ℕ)) (h : Lines ls) (few : length ls ≤ stepLimit) w
   abbrev size : List ℕ
   size = beBytes 4 (lengthOf (length ls))
 
-  total : length sheet ≡ sizeOf (length ls)
+  total : length sheet ≡ sheetSize (length ls)
   total = sheet-length ls h
 
   steps : stepsIn sheet ≡ length ls

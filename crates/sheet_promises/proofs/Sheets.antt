@@ -13,7 +13,7 @@ use Rattle.definition.specs.Calls.{Ran, stepsOf}
 use Rattle.definition.proofs.Calls.{turn-end, turn-on, turn-off, run-counted}
 use Rattle.promises.specs.Runs.{Steps, start, more}
 use Rattle.promises.proofs.Refusals.{is-zero}
-use Rattle.sheet_lines.specs.Sheet.{line, lineValues, lineOf, linesOf}
+use Rattle.sheet_lines.specs.Sheet.{line, lineValues, lineBytes, linesOf}
 use Rattle.sheet_lines.proofs.Lines.{lines-taken, lines-refused}
 use Rattle.sheet_promises.specs.Sheets.{LineBack, LineForth, LinesCount, LineOfStep}
 
@@ -45,23 +45,23 @@ record Front (k : List ℕ) (n t : ℕ) (m u : State) : Type 0 where
   long : length taken ≡ t
   is : linesOf k n m ≡ taken ++ linesOf k (n - t) u
 
-next-line : (k : List ℕ) (n t : ℕ) (u x : State) → t < n → stepOf k u ≡ outcome 0 x → linesOf k (n - t) u ≡ lineOf k u x ∷ linesOf k (n - (t + 1)) x
+next-line : (k : List ℕ) (n t : ℕ) (u x : State) → t < n → stepOf k u ≡ outcome 0 x → linesOf k (n - t) u ≡ lineBytes k u x ∷ linesOf k (n - (t + 1)) x
 next-line k n t u x l e =
     let i : n - t ≡ suc (n - (t + 1)) = omega arith in
-    rw i (lines-taken k (n - (t + 1)) u (ap (λ (o : Outcome). o .code) e) ∙ ap (λ (o : Outcome). lineOf k u (o .left) ∷ linesOf k (n - (t + 1)) (o .left)) e)
+    rw i (lines-taken k (n - (t + 1)) u (ap (λ (o : Outcome). o .code) e) ∙ ap (λ (o : Outcome). lineBytes k u (o .left) ∷ linesOf k (n - (t + 1)) (o .left)) e)
 
 front : (k : List ℕ) (n t : ℕ) (m u : State) → t ≤ n → Steps k t m u → Front k n t m u
 front k n t m u l start = record { taken = []; long = refl; is = rw sub-zero }
 front k n t m u l (more {t = i} {u = w} p e) =
     let f = front k n i m w (omega arith) p in
     record {
-      taken = f .taken ++ (lineOf k w u ∷ []);
-      long = length-append (f .taken) (lineOf k w u ∷ []) ∙ omega (arith, f .long);
-      is = f .is ∙ ap (λ (ls : List (List ℕ)). f .taken ++ ls) (next-line k n i w u (omega arith) e) ∙ sym (append-snoc (f .taken) (lineOf k w u) _);
+      taken = f .taken ++ (lineBytes k w u ∷ []);
+      long = length-append (f .taken) (lineBytes k w u ∷ []) ∙ omega (arith, f .long);
+      is = f .is ∙ ap (λ (ls : List (List ℕ)). f .taken ++ ls) (next-line k n i w u (omega arith) e) ∙ sym (append-snoc (f .taken) (lineBytes k w u) _);
     }
 
 pub line-of-step : LineOfStep
 line-of-step k n t m u x l p e =
     let f = front k n t m u (omega arith) p in
     ap (λ (ls : List (List ℕ)). getD ls t []) (f .is ∙ ap (λ (ls : List (List ℕ)). f .taken ++ ls) (next-line k n t u x l e))
-    ∙ getD-at (f .taken) (lineOf k u x) _ [] t (f .long)
+    ∙ getD-at (f .taken) (lineBytes k u x) _ [] t (f .long)

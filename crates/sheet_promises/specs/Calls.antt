@@ -6,7 +6,7 @@ use mathlib.Core.List.{List, [], _∷_}
 use lib.ListN.{length}
 use Rattle.answer.specs.Rows.{oneOf}
 use Rattle.sheet_lines.specs.declared.Marks.the-variants.{NoMarks}
-use Rattle.sheet.specs.Mark.{lent}
+use Rattle.sheet.specs.Mark.{lentRuns}
 use Rattle.capi_sheet.specs.Calls.{fitted, marksWords, MarkCalled, markCallOf, SheetCalled, sheetCallOf}
 use Rattle.promises.specs.Determined.{DeterminedWhole}
 
@@ -26,7 +26,7 @@ SheetCallBlank = (c k v d t w : List ℕ) → (sheetCallOf c k v d t w .number �
 
 -- A result that isn't two words: nothing changes.
 abbrev pub MarkCallRoom : Type 0
-MarkCallRoom = (c k v d s r : List ℕ) → (length r ≡ 2 → ⊥) → (markCallOf c k v d s r .result ≡ r) × (markCallOf c k v d s r .left ≡ lent v d)
+MarkCallRoom = (c k v d s r : List ℕ) → (length r ≡ 2 → ⊥) → (markCallOf c k v d s r .result ≡ r) × (markCallOf c k v d s r .left ≡ lentRuns v d)
 
 -- Two results that a contract allows are equal: a caller sees all of one.
 abbrev pub MarkCallDetermined : Type 0

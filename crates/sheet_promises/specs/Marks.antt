@@ -16,7 +16,7 @@ use Rattle.sheet_lines.specs.declared.Marks.the-variants.{NoMarks, Full, Differ
 use Rattle.sheet_lines.specs.Sheet.{headSize, stepLimit, sheetOf, sheetOkOf, linesIn}
 use Rattle.sheet.specs.declared.Marked.{Marked}
 use Rattle.sheet.specs.declared.Modelled.{Modelled}
-use Rattle.sheet.specs.Mark.{startOf, ownOf, noSteps, Lent, lent, Marking, marking, markOf, Modelling, modelling, modelOf, roomNeeded}
+use Rattle.sheet.specs.Mark.{ownStart, ownOf, noSteps, LentRuns, lentRuns, Marking, marking, markOf, Modelling, modelling, modelOf, sheetRoom}
 use Rattle.sheet_promises.specs.Sheets.{AllBytes}
 
 -- the bytes that the model call wrote
@@ -28,7 +28,7 @@ writtenOf r = take (r .written) (r .target)
 -- Full marks exactly when the sheet is, byte for byte, what the model call writes.
 abbrev pub FullExactly : Type 0
 FullExactly =
-    (k : List ℕ) (l : Launch) (v d s t : List ℕ) → AllBytes s → roomNeeded ≤ length t
+    (k : List ℕ) (l : Launch) (v d s t : List ℕ) → AllBytes s → sheetRoom ≤ length t
     → Iff (markOf k l v d s .marks ≡ Full) ((modelOf k l v d t .number ≡ 0) × (s ≡ writtenOf (modelOf k l v d t)))
 
 -- The model sheet gets full marks.
@@ -37,7 +37,7 @@ ModelFull = (k : List ℕ) (l : Launch) (v d t : List ℕ) → modelOf k l v d t
 
 -- An empty file is refused with 16 wherever the launch isn't refused, and never gets full marks.
 abbrev pub EmptyRefused : Type 0
-EmptyRefused = (k : List ℕ) (l : Launch) (v d : List ℕ) → launchOf k l v d .code ≡ 0 → markOf k l v d [] ≡ marking 16 NoMarks 0 (lent v d)
+EmptyRefused = (k : List ℕ) (l : Launch) (v d : List ℕ) → launchOf k l v d .code ≡ 0 → markOf k l v d [] ≡ marking 16 NoMarks 0 (lentRuns v d)
 
 abbrev pub EmptyNever : Type 0
 EmptyNever = (k : List ℕ) (l : Launch) (v d : List ℕ) → markOf k l v d [] .marks ≡ Full → ⊥
@@ -94,8 +94,8 @@ abbrev pub MarkAnswers : Type 0
 MarkAnswers = (k : List ℕ) (l : Launch) (v d s : List ℕ) → MarkNumbers k l v d s
 
 pub record ModelNumbers (k : List ℕ) (l : Launch) (v d t : List ℕ) : Type 0 where
-  pub done : Iff (modelOf k l v d t .number ≡ 0) ((launchOf k l v d .code ≡ 0) × (roomNeeded ≤ length t) × (noSteps k l v d ≡ false))
-  pub none : Iff (modelOf k l v d t .number ≡ 17) ((launchOf k l v d .code ≡ 0) × (roomNeeded ≤ length t) × (noSteps k l v d ≡ true))
+  pub done : Iff (modelOf k l v d t .number ≡ 0) ((launchOf k l v d .code ≡ 0) × (sheetRoom ≤ length t) × (noSteps k l v d ≡ false))
+  pub none : Iff (modelOf k l v d t .number ≡ 17) ((launchOf k l v d .code ≡ 0) × (sheetRoom ≤ length t) × (noSteps k l v d ≡ true))
   pub others : (modelOf k l v d t .number ≡ 0 → ⊥) → (modelOf k l v d t .number ≡ 17 → ⊥) → modelOf k l v d t .number ≡ 1
 
 abbrev pub ModelAnswers : Type 0
@@ -104,21 +104,21 @@ ModelAnswers = (k : List ℕ) (l : Launch) (v d t : List ℕ) → ModelNumbers k
 -- ---- what is left
 
 -- the vector file and the data after the run
-abbrev pub ranLent : List ℕ → State → Lent
-ranLent k m = lent (runOf k stepLimit m .ends .left .vector) (runOf k stepLimit m .ends .left .bytes)
+abbrev pub ranLent : List ℕ → State → LentRuns
+ranLent k m = lentRuns (runOf k stepLimit m .ends .left .vector) (runOf k stepLimit m .ends .left .bytes)
 
 -- the number n, and what is left
-pub record Leaves (k : List ℕ) (l : Launch) (v d : List ℕ) (n : ℕ) (e : Lent) : Type 0 where
-  pub done : n ≡ 0 → e ≡ ranLent k (startOf k l v d)
-  pub size : n ≡ 1 → e ≡ lent v d
-  pub sheet : n ≡ 16 → e ≡ lent v d
-  pub none : n ≡ 17 → e ≡ lent (replicate fileWords 0) d
+pub record LeftBy (k : List ℕ) (l : Launch) (v d : List ℕ) (n : ℕ) (e : LentRuns) : Type 0 where
+  pub done : n ≡ 0 → e ≡ ranLent k (ownStart k l v d)
+  pub size : n ≡ 1 → e ≡ lentRuns v d
+  pub sheet : n ≡ 16 → e ≡ lentRuns v d
+  pub none : n ≡ 17 → e ≡ lentRuns (replicate fileWords 0) d
 
 abbrev pub MarkLeaves : Type 0
-MarkLeaves = (k : List ℕ) (l : Launch) (v d s : List ℕ) → Leaves k l v d (markOf k l v d s .number) (markOf k l v d s .left)
+MarkLeaves = (k : List ℕ) (l : Launch) (v d s : List ℕ) → LeftBy k l v d (markOf k l v d s .number) (markOf k l v d s .left)
 
 abbrev pub ModelLeaves : Type 0
-ModelLeaves = (k : List ℕ) (l : Launch) (v d t : List ℕ) → Leaves k l v d (modelOf k l v d t .number) (modelOf k l v d t .left)
+ModelLeaves = (k : List ℕ) (l : Launch) (v d t : List ℕ) → LeftBy k l v d (modelOf k l v d t .number) (modelOf k l v d t .left)
 
 -- A refused model call leaves the target as it was; any other puts the sheet at its start and leaves the rest.
 abbrev pub TargetKept : Type 0
@@ -131,12 +131,12 @@ TargetWritten = (k : List ℕ) (l : Launch) (v d t : List ℕ) → modelOf k l v
 
 pub record MarkLeft : Type 0 where
   pub result : Marked
-  pub left : Lent
+  pub left : LentRuns
 
 pub record ModelLeft : Type 0 where
   pub result : Modelled
   pub target : List ℕ
-  pub left : Lent
+  pub left : LentRuns
 
 abbrev pub markSeen : MarkLeft → Marking
 markSeen r = marking (numberOf (r .result .answer)) (r .result .marks) (r .result .steps) (r .left)

@@ -8,7 +8,7 @@ use Rattle.definition.specs.State.{State, outcome}
 use Rattle.definition.specs.Step.{stepOf}
 use Rattle.definition.specs.Calls.{runOf}
 use Rattle.promises.specs.Runs.{Steps}
-use Rattle.sheet_lines.specs.Sheet.{line, lineSize, stepLimit, lineValues, lineOf, linesOf}
+use Rattle.sheet_lines.specs.Sheet.{line, lineSize, stepLimit, lineValues, lineBytes, linesOf}
 
 -- every element is a byte, as those of a lent run of bytes are
 abbrev pub AllBytes : List ℕ → Type 0
@@ -29,4 +29,4 @@ LinesCount = (k : List ℕ) (n : ℕ) (m : State) → 1 ≤ n → length (linesO
 
 -- The line at place t, counted from 0, is that of the step after t taken steps.
 abbrev pub LineOfStep : Type 0
-LineOfStep = (k : List ℕ) (n t : ℕ) (m u x : State) → t < n → Steps k t m u → stepOf k u ≡ outcome 0 x → getD (linesOf k n m) t [] ≡ lineOf k u x
+LineOfStep = (k : List ℕ) (n t : ℕ) (m u x : State) → t < n → Steps k t m u → stepOf k u ≡ outcome 0 x → getD (linesOf k n m) t [] ≡ lineBytes k u x

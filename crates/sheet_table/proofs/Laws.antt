@@ -9,10 +9,10 @@ use borrow.Author.Tests.{leb-true, ltb-true}
 use lib.ListN.{length}
 use Rattle.answer.proofs.Rows.{both, every-at}
 use Rattle.sheet_lines.specs.Sheet.{stepLimit, stepsIn}
-use Rattle.sheet_table.specs.SheetTable.{rowOf, rowsOf, stepsRoom, tableRoom, hasStep, tableFits}
+use Rattle.sheet_table.specs.SheetTable.{tableRow, tableRows, stepsRoom, tableRoom, hasStep, tableFits}
 
-pub rows-more : (s : List ℕ) (i : ℕ) → rowsOf (i + 1) s ≡ rowsOf i s ++ rowOf s i
-unfolding rowsOf
+pub rows-more : (s : List ℕ) (i : ℕ) → tableRows (i + 1) s ≡ tableRows i s ++ tableRow s i
+unfolding tableRows
 rows-more s i = rw add-one
 
 -- what the calls' tests tell

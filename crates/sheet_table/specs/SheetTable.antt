@@ -7,7 +7,7 @@ use lib.ListN.{length}
 use Rattle.answer.specs.Rows.{every}
 use Rattle.big_endian.specs.BigEndian.{beAt}
 use Rattle.text.specs.Text.{hexOf, decimalOf, rightOf}
-use Rattle.sheet_lines.specs.Sheet.{stepLimit, sizeOf, stepsIn}
+use Rattle.sheet_lines.specs.Sheet.{stepLimit, sheetSize, stepsIn}
 use Rattle.sheet_text.specs.SheetText.{feed}
 use Rattle.sheet_text.specs.Put.{Put, putWhere}
 
@@ -53,21 +53,21 @@ labelled label s at = label ++ columnsAt s at ++ feed
 unfoldable pub stepLines : List ℕ → List ℕ → ℕ → List ℕ
 stepLines own given n =
     blankLabel ++ columnNames
-    ++ labelled expectedLabel own (sizeOf (n - 1))
-    ++ labelled givenLabel given (sizeOf (n - 1))
+    ++ labelled expectedLabel own (sheetSize (n - 1))
+    ++ labelled givenLabel given (sheetSize (n - 1))
 
 -- ---- a sheet as a table
 
-unfoldable pub rowOf : List ℕ → ℕ → List ℕ
-rowOf s i = rightOf 4 (i + 1) ++ labelled gap s (sizeOf i)
+unfoldable pub tableRow : List ℕ → ℕ → List ℕ
+tableRow s i = rightOf 4 (i + 1) ++ labelled gap s (sheetSize i)
 
 -- the first n rows
-unfoldable pub rowsOf : ℕ → List ℕ → List ℕ
-rowsOf zero s = []
-rowsOf (suc n) s = rowsOf n s ++ rowOf s n
+unfoldable pub tableRows : ℕ → List ℕ → List ℕ
+tableRows zero s = []
+tableRows (suc n) s = tableRows n s ++ tableRow s n
 
 unfoldable pub tableOf : List ℕ → List ℕ
-tableOf s = stepLabel ++ columnNames ++ rowsOf (stepsIn s) s
+tableOf s = stepLabel ++ columnNames ++ tableRows (stepsIn s) s
 
 -- ---- room for every text of its kind
 

@@ -9,7 +9,7 @@ ghost use Rattle.io.specs.Counts.{Counts};
 ghost use Rattle.sheet_lines.specs.Sheet.{lineSize, stepLimit, stepsIn};
 ghost use Rattle.text.specs.Puts.{Puts};
 ghost use Rattle.sheet_text.specs.Put.{put};
-ghost use Rattle.sheet_table.specs.SheetTable.{wordColumn, columnsAt, labelled, stepLines, rowOf, rowsOf, tableOf, stepsRoom, rowRoom, tableRoom, hasStep, tableFits, stepLinesInto, tableInto};
+ghost use Rattle.sheet_table.specs.SheetTable.{wordColumn, columnsAt, labelled, stepLines, tableRow, tableRows, tableOf, stepsRoom, rowRoom, tableRoom, hasStep, tableFits, stepLinesInto, tableInto};
 
 // Room for the three lines of a step, and for the largest table.
 pub const STEPS_ROOM: usize = 166;
@@ -64,7 +64,7 @@ fn put_step_lines(out: &mut [u8], own: &[u8], given: &[u8], n: usize) -> usize
 
 fn put_row(out: &mut [u8], at: usize, s: &[u8], i: usize) -> usize
     requires { ⌜ (at + rowRoom ≤ length (now out)) × (i < stepsIn (now s)) ⌝ }
-    ensures { λ r. ⌜ Puts (now (out .entry)) at (rowOf (now (s .entry)) i) (now (out .exit)) r × (r ≤ at + rowRoom) ⌝ }
+    ensures { λ r. ⌜ Puts (now (out .entry)) at (tableRow (now (s .entry)) i) (now (out .exit)) r × (r ≤ at + rowRoom) ⌝ }
 {
     let one = text::put_right(out, at, 4, (i + 1) as u64);
     put_labelled(out, one, b"  ", s, HEAD_SIZE + LINE_SIZE * i)
@@ -72,7 +72,7 @@ fn put_row(out: &mut [u8], at: usize, s: &[u8], i: usize) -> usize
 
 fn put_rows(out: &mut [u8], at: usize, s: &[u8]) -> usize
     requires { ⌜ at + rowRoom * stepsIn (now s) ≤ length (now out) ⌝ }
-    ensures { λ r. ⌜ Puts (now (out .entry)) at (rowsOf (stepsIn (now (s .entry))) (now (s .entry))) (now (out .exit)) r × (r ≤ at + rowRoom * stepsIn (now (s .entry))) ⌝ }
+    ensures { λ r. ⌜ Puts (now (out .entry)) at (tableRows (stepsIn (now (s .entry))) (now (s .entry))) (now (out .exit)) r × (r ≤ at + rowRoom * stepsIn (now (s .entry))) ⌝ }
 {
     let n = sheet_lines::steps_in(s);
     let mut end = at;

@@ -87,11 +87,11 @@ marksText Short n m = shortText ++ countText n m
 marksText Long n m = longText ++ countText n m
 
 -- why a refusal's number refuses; no other can occur
-unfoldable pub wordsOf : ℕ → List ℕ
-wordsOf c = cond (eqb c 1) sizeWords (cond (eqb c 13) cardWords (cond (eqb c 16) sheetWords (cond (eqb c 17) noStepsWords [])))
+unfoldable pub reasonOf : ℕ → List ℕ
+reasonOf c = cond (eqb c 1) sizeWords (cond (eqb c 13) cardWords (cond (eqb c 16) sheetWords (cond (eqb c 17) noStepsWords [])))
 
 unfoldable pub refusalText : ℕ → List ℕ
-refusalText c = refusedText ++ decimalOf c ++ colon ++ wordsOf c
+refusalText c = refusedText ++ decimalOf c ++ colon ++ reasonOf c
 
 -- the number c is 0 where the sheet was marked
 unfoldable pub verdictText : ℕ → Marks → ℕ → ℕ → List ℕ

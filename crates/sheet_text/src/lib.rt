@@ -6,7 +6,7 @@ ghost use lib.ListN.{length};
 ghost use Rattle.io.specs.Counts.{Counts};
 ghost use Rattle.text.specs.Text.{decimalOf};
 ghost use Rattle.text.specs.Puts.{Puts};
-ghost use Rattle.sheet_text.specs.SheetText.{countText, marksText, wordsOf, refusalText, verdictText, markLine, refusalLine, writtenLine, unwrittenLine};
+ghost use Rattle.sheet_text.specs.SheetText.{countText, marksText, reasonOf, refusalText, verdictText, markLine, refusalLine, writtenLine, unwrittenLine};
 ghost use Rattle.sheet_text.specs.Put.{put, roomFor, lineRoom, markLineInto, refusalLineInto, writtenLineInto, unwrittenLineInto};
 
 // Room for every line beside its name.
@@ -57,7 +57,7 @@ fn put_marks(out: &mut [u8], at: usize, marks: Marks, given: u64, own: u64) -> u
 
 fn put_words(out: &mut [u8], at: usize, number: u32) -> usize
     requires { ⌜ at + 72 ≤ length (now out) ⌝ }
-    ensures { λ r. ⌜ Puts (now (out .entry)) at (wordsOf number) (now (out .exit)) r × (r ≤ at + 72) ⌝ }
+    ensures { λ r. ⌜ Puts (now (out .entry)) at (reasonOf number) (now (out .exit)) r × (r ≤ at + 72) ⌝ }
 {
     if number == answer::SIZE {
         return text::put_text(

@@ -1,7 +1,7 @@
 use mathlib.Core.Path.{sym, _∙_}
 use borrow.Author.Tests.{not-true, not-false}
 use borrow.Author.Needs.{needs}
-use Rattle.launch_files.proofs.Laws.{card-refused, files-refused, files-taken}
+use Rattle.launch_files.proofs.Laws.{card-refused, sizes-refused, sizes-taken}
 use Rattle.launch_files.proofs.read_files.Statement.{statement}
 use Rattle.launch_files.proofs.read_files.Tie as tie
 
@@ -15,14 +15,14 @@ returns-2 c =
     let sizes = c .before .before in
     let card = sizes .before in
     let number = card .before in
-    files-refused _ _ _ _ (number .before .read-card .ensures) (sym (number .number .ensures) ∙ card .if1 .left) (sym (sizes .files-ok .ensures) ∙ not-true _ (c .before .if2 .taken))
+    sizes-refused _ _ _ _ (number .before .read-card .ensures) (sym (number .number .ensures) ∙ card .if1 .left) (sym (sizes .files-ok .ensures) ∙ not-true _ (c .before .if2 .taken))
 
 returns-3 : tie.Need-returns-3
 returns-3 c =
     let sizes = c .before in
     let card = sizes .before in
     let number = card .before in
-    files-taken _ _ _ _ (number .before .read-card .ensures) (sym (number .number .ensures) ∙ card .if1 .left) (sym (sizes .files-ok .ensures) ∙ not-false _ (c .if2 .left))
+    sizes-taken _ _ _ _ (number .before .read-card .ensures) (sym (number .number .ensures) ∙ card .if1 .left) (sym (sizes .files-ok .ensures) ∙ not-false _ (c .if2 .left))
 
 pub read-files-spec : {M : Type 1} → statement M
 read-files-spec =

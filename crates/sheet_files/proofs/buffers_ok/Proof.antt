@@ -1,10 +1,10 @@
-use Rattle.sheet_files.specs.SheetFiles.{buffersOkOf}
+use Rattle.sheet_files.specs.SheetFiles.{lineBuffersOk}
 use borrow.Author.Needs.{needs}
 use Rattle.sheet_files.proofs.buffers_ok.Statement.{statement}
 use Rattle.sheet_files.proofs.buffers_ok.Tie as tie
 
 returns : tie.Need-returns
-unfolding buffersOkOf
+unfolding lineBuffersOk
 returns c = rw (c .room-for .ensures)
 
 pub buffers-ok-spec : {M : Type 1} → statement M

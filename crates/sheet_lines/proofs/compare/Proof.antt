@@ -4,7 +4,7 @@ use mathlib.Core.Path.{sym, _∙_}
 use mathlib.Core.Bool.{true≢false}
 use borrow.Author.Tests.{not-true, not-false}
 use borrow.Author.Needs.{needs}
-use Rattle.sheet_lines.specs.Sheet.{stepLimit, sizeOf}
+use Rattle.sheet_lines.specs.Sheet.{stepLimit, sheetSize}
 use Rattle.sheet_lines.proofs.Compares.{width, Alike, alike-none, alike-more, alike-differs, alike-short, alike-long, alike-full}
 use Rattle.sheet_lines.proofs.compare.Statement.{statement}
 use Rattle.sheet_lines.proofs.compare.Tie as tie

@@ -1,7 +1,7 @@
 use Prim.Native.Nat.{_+_}
 use native.Mathlib.Omega.{arith}
 use Rattle.text.proofs.Laws.{puts-then, right-size}
-use Rattle.sheet_table.specs.SheetTable.{rowOf}
+use Rattle.sheet_table.specs.SheetTable.{tableRow}
 use borrow.Author.Needs.{needs}
 use Rattle.sheet_table.proofs.put_row.Statement.{statement}
 use Rattle.sheet_table.proofs.put_row.Tie as tie
@@ -15,7 +15,7 @@ put-labelled-requires c κs =
     (omega (arith, right-size 4 (start .args .i + 1) (omega arith)), omega arith)
 
 returns : tie.Need-returns
-unfolding rowOf
+unfolding tableRow
 returns c =
     let two = c .before .before in
     let one = two .before .before .before .before .before in

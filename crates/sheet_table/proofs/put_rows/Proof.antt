@@ -7,13 +7,13 @@ use borrow.Author.Needs.{needs}
 use Rattle.text.specs.Puts.{Puts}
 use Rattle.text.proofs.Laws.{puts-none, puts-then, puts-as}
 use Rattle.sheet_lines.specs.Sheet.{stepsIn}
-use Rattle.sheet_table.specs.SheetTable.{rowsOf, rowRoom}
+use Rattle.sheet_table.specs.SheetTable.{tableRows, rowRoom}
 use Rattle.sheet_table.proofs.Laws.{rows-more}
 use Rattle.sheet_table.proofs.put_rows.Statement.{statement}
 use Rattle.sheet_table.proofs.put_rows.Tie as tie
 
 abbrev Inv-loop : tie.InvT-loop
-Inv-loop out₀ at s n end₀ i₀ out end i = (i ≤ n) × (length out ≡ length out₀) × Puts out₀ at (rowsOf i s) out end × (end ≤ at + rowRoom * i)
+Inv-loop out₀ at s n end₀ i₀ out end i = (i ≤ n) × (length out ≡ length out₀) × Puts out₀ at (tableRows i s) out end × (end ≤ at + rowRoom * i)
 
 abbrev μ-loop : tie.MeasureT-loop
 μ-loop out₀ at s n end₀ i₀ out end i = n - i
@@ -22,7 +22,7 @@ steps-in-requires : tie.Need-steps-in-requires Inv-loop μ-loop
 steps-in-requires c κs = search needs
 
 loop-holds : tie.Need-loop-holds Inv-loop μ-loop
-unfolding rowsOf
+unfolding tableRows
 loop-holds c = (omega arith, refl, puts-none _ _, omega arith)
 
 put-row-requires : tie.Need-put-row-requires Inv-loop μ-loop
