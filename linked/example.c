@@ -11,7 +11,7 @@ uint32_t bench_run(uint32_t *state, size_t state_words, const uint32_t *kernel, 
                    uint32_t *vector, size_t vector_words, uint8_t *data, size_t data_bytes, uint32_t budget,
                    uint32_t *steps, size_t steps_words);
 
-enum { OPEN = 187, PC = 188, MASK = 189, STATE = 207, VECTOR = 1024, KERNEL = 16384, DATA = 65536 };
+enum { OPEN = 219, PC = 220, MASK = 221, STATE = 241, VECTOR = 8192, KERNEL = 16384, DATA = 65536 };
 
 // Room for more than a card, data or a kernel may have, which is refused.
 static uint8_t card[51], data[DATA + 1];

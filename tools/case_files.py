@@ -16,6 +16,7 @@ AS = 'riscv64-unknown-elf-as'
 # where a Linux user program can have its code and data
 CODE, DATA = 0x10000, 0x20000
 LANES = 32
+VECTOR_WORDS = 256 * LANES
 # the kinds of a record that are made here
 CHECKS_ITSELF, DATA_ONLY = 6, 7
 
@@ -92,6 +93,9 @@ FIELDS = {
     'amount': lambda imm: within(imm, 0, 32) << 20,
     'signed': lambda imm: (within(imm, -16, 16) & 0x1F) << 15,
     'unsigned': lambda imm: within(imm, 0, 32) << 15,
+    # of a prefix: its digits x3, x2, x1 and xd, or six bits of an immediate, x2 and xd
+    **{digit: lambda n, place=place: within(n, 0, 8) << place for digit, place in (('d3', 29), ('d2', 26), ('d1', 23), ('d0', 20))},
+    'high': lambda imm: within(imm, 0, 64) << 26,
 }
 BRANCHES = {'eq': 0, 'ne': 1, 'lt': 4, 'ge': 5, 'ltu': 6, 'geu': 7}
 LOADS = {'b': 0, 'h': 1, 'w': 2, 'bu': 4, 'hu': 5}
@@ -127,6 +131,7 @@ def scalar_table():
 
 def ventus_table():
     rows = {'join': (0x205B, ''), 'endprg': (0x400B, ''), 'setrpc': (0x305B, 'xd x1 i')}
+    rows |= {'regext': (0x200B, 'd3 d2 d1 d0'), 'regexti': (0x300B, 'high d1 d0')}
     rows |= {'vb' + n: (f3 << 12 | 0x5B, 'v1 v2 b') for n, f3 in BRANCHES.items()}
     rows |= {'vl%s12' % n: (f3 << 12 | 0x7B, 'vd i v1') for n, f3 in LOADS.items()}
     rows |= {'vs%s12' % n: (f3 << 12 | 0x7B, 'v2 s v1') for n, (_, f3) in STORES.items()}
@@ -238,7 +243,7 @@ def record(kind, words, data, budget=65536):
     body = packed([len(launch_card)], '>') + launch_card
     body += packed([len(words), len(words), *words, 0], '>')
     body += packed([len(data), len(data)], '>') + data + packed([0], '>')
-    body += packed([1024, 0, 0, 0, budget], '>')
+    body += packed([VECTOR_WORDS, 0, 0, 0, budget], '>')
     return struct.pack('>BI', kind, len(body)) + body
 
 

@@ -55,6 +55,8 @@ def ventus(w):
             return line('ep')
         if f3 == 0b100 and f7 == 0b0000010 and rs2 == 0 and rd == 0:
             return line('ba', 0, 0, rs1)
+        if f3 in (0b010, 0b011) and rs1 == 0 and rd == 0:
+            return line('rx' if f3 == 0b010 else 'ri', imm=imm_i)
     elif op == 0b1111011 or (op == 0b0101011 and field(w, 31, 1) == 0):
         k = 'v' if op == 0b1111011 else 'p'
         loads = {0b000: 'b', 0b001: 'h', 0b010: 'w', 0b100: 'bu', 0b101: 'hu'}
@@ -237,6 +239,17 @@ def words(rng):
             out += [r(17) << 15 | f3 << 12 | r(5) << 7 | op for _ in range(60)]
     while len(out) < 24000:
         out.append(r(25) << 7 | rng.choice(known))
+    return out + prefixes(rng)
+
+
+def prefixes(rng):
+    """REGEXT and REGEXTI: each bit of the immediate alone and left out, any immediates, and one or two other bits changed"""
+    bits = [1 << i for i in range(12)]
+    out = []
+    for w in (0x0000200B, 0x0000300B):
+        out += [w ^ imm << 20 for imm in (0, 0xFFF, *bits, *(0xFFF ^ bit for bit in bits), *(rng.getrandbits(12) for _ in range(200)))]
+        for i in range(7, 20):
+            out += [w ^ rng.getrandbits(12) << 20 ^ 1 << i ^ other for other in (0, *(1 << j for j in range(i + 1, 20)))]
     return out
 
 

@@ -53,18 +53,40 @@ STORE = kernel(
     'vadd.vi v3,v1,10', 'vsw12 v3,0(v2)',   # word l of data memory becomes 10 + l
     'endprg')
 
-# each lane stores two private words; the data, read word by word, must count from 10 to 17
+
+
+def counting(first, last):
+    """the end of a kernel whose data, read word by word, must count from the first number to the last"""
+    return kernel(
+        'lui x5,0x%x' % (DATA >> 12),       # the first word's address
+        'addi x6,x0,%d' % first, 'addi x7,x0,%d' % (last + 1),
+        'lw x8,0(x5)',                      # a plain read of one word
+        'bne x8,x6,20',                     # another number: to the word after ENDPRG
+        'addi x5,x5,4', 'addi x6,x6,1',
+        'bne x6,x7,-16',                    # the next word
+        'endprg') + bytes(4)                # a word that is not in the tables
+
+
+# each lane stores two private words
 PRIVATE = kernel(
     'vid.v v1', 'vmv.v.i v2,0',
     'vadd.vi v3,v1,10', 'vsw.p v3,0(v2)',   # u = 0: 10 + l
     'vadd.vi v3,v1,14', 'vsw.p v3,4(v2)',   # u = 4: 14 + l
-    'lui x5,0x%x' % (DATA >> 12),           # the first word's address
-    'addi x6,x0,10', 'addi x7,x0,18',
-    'lw x8,0(x5)',                          # a plain read of one word
-    'bne x8,x6,20',                         # another number: to the word after ENDPRG
-    'addi x5,x5,4', 'addi x6,x6,1',
-    'bne x6,x7,-16',                        # the next word
-    'endprg') + bytes(4)                    # a word that is not in the tables
+) + counting(10, 17)
+
+# the digits x3, x2, x1 and xd of a REGEXT go on the next word's vs2, rs1 or vs1, and vd or rd: 3 on v4 is v100, 1 on x8 is x40
+EXTENDED = kernel(
+    'vid.v v1', 'vsll.vi v2,v1,2',
+    'lui x5,0x%x' % (DATA >> 12), 'vadd.vx v2,v2,x5',   # v2: the address of word l
+    'regext 0,0,0,3', 'vid.v v4',           # v100 = l
+    'regext 0,0,0,1', 'addi x8,x0,600',     # x40 = 600
+    'regext 0,3,1,3', 'vadd.vx v5,v4,x8',   # v101 = v100 + x40 = 600 + l
+    'regexti 12,3,3', 'vadd.vi v5,v5,-16',  # v101 = v101 + 400: the bits 001100 10000, whose last five alone are -16
+    'regext 0,3,0,0', 'vsw12 v5,0(v2)',     # word l of data memory becomes v101 = 1000 + l
+) + counting(1000, 1003)
+
+# digit 2 on x0 is x64, which there isn't
+X64 = kernel('regext 0,0,0,2', 'addi x0,x0,1', 'endprg')
 
 # lane 3's u is 1, so that its word crosses a boundary; the others' is 0
 CROSSING = kernel(
@@ -82,6 +104,8 @@ EXAMPLES = {
     'outside': (card(), STORE, bytes(15)),
     'private': (card(numw=2, wid=1, pds=DATA), PRIVATE, bytes(32)),
     'crossing': (card(numw=2, wid=1, pds=DATA), CROSSING, bytes(32)),
+    'extended': (card(), EXTENDED, bytes(16)),
+    'x64': (card(), X64, None),
 }
 
 # the folder of the sheets that ./mark marks

@@ -2,7 +2,9 @@
 
 use reference::generate::Rng;
 use reference::isa::{ENDPRG, JOIN};
-use reference::table::{enc_b, enc_i, enc_j, enc_s, rd, rs1, rs2, Shape, Table, Variant, RD};
+use reference::table::{
+    enc_b, enc_i, enc_j, enc_s, rd, regext, regexti, rs1, rs2, Shape, Table, Variant, RD,
+};
 
 pub const CODE_BASE: u32 = 0x8000_0000;
 pub const DATA_BASE: u32 = 0x1000_0000;
@@ -48,6 +50,7 @@ pub fn subjects() -> Vec<Subject> {
         run("900 words", counted_loop(t, vec![], many_scalar(t), 110)),
         Subject { mask: SOME_LANES, ..run("partial mask", lanes) },
         run("mix", counted_loop(t, vec![], mix(t), 110)),
+        run("prefixed", counted_loop(t, vec![t.fixed("vid.v") | rd(1)], prefixed(t), 8_000)),
     ]
 }
 
@@ -83,6 +86,30 @@ fn arithmetic(t: &Table) -> Vec<u32> {
         op("vsra.vv", 9, 7, 1),
         op("vmslt.vv", 10, 9, 8),
         op("vor.vv", 9, 9, 10),
+    ]
+}
+
+/// Words behind a prefix, on v32 to v255 and x32 to x63, and a few that have none; v1 holds the
+/// lane numbers.
+fn prefixed(t: &Table) -> Vec<u32> {
+    let op = |name: &str, d: u32, a: u32, b: u32| t.fixed(name) | rd(d) | rs2(a) | rs1(b);
+    vec![
+        regext(3, 0, 3),
+        op("vadd.vv", 4, 5, 1), // v100 = v101 + v1
+        regext(3, 3, 7),
+        op("vmul.vv", 31, 4, 5), // v255 = v100 * v101
+        regext(0, 0, 1),
+        op("add", 8, 6, 5), // x40 = x5 + x6
+        regext(7, 1, 3),
+        op("vxor.vx", 5, 31, 8), // v101 = v255 ^ x40
+        regexti(20, 3, 1),
+        op("vadd.vi", 0, 5, 9), // v32 = v101 + 649
+        op("vor.vv", 2, 2, 1),
+        regext(1, 1, 1),
+        op("xor", 31, 8, 31), // x63 = x63 ^ x40
+        regext(0, 1, 0),
+        t.fixed("srai") | rd(6) | rs1(31) | rs2(3), // x6 = x63 >> 3
+        op("vsub.vv", 3, 2, 3),
     ]
 }
 

@@ -1,17 +1,19 @@
 //! One step of a well-formed warp over lent runs of the right sizes.
 
 use crate::isa::{
-    decode, AluOp, Cond, CsrOp, CsrSrc, Insn, LoadKind, Space, StoreKind, VOp, VSrc, V, X,
+    decode, decode_after, AluOp, Cond, CsrOp, CsrSrc, Insn, LoadKind, Prefix, Space, StoreKind,
+    VOp, VSrc, V, VECTORS, X,
 };
 use crate::state::{Fixed, Split, Warp, LANES};
 use crate::Refusal;
 
 /// The vector file: register r, lane l is word 32 r + l.
-pub type VectorFile = [u32; 32 * LANES];
+pub type VectorFile = [u32; VECTORS * LANES];
 
 type Step = Result<(), Refusal>;
 
-/// Fetch, decode and do one word. A refusal changes nothing.
+/// Fetch, decode and do one word, which uses up the prefix that was pending. A refusal changes
+/// nothing.
 #[inline]
 pub fn step(w: &mut Warp, kernel: &[u32], v: &mut VectorFile, data: &mut [u8]) -> Step {
     if w.ended {
@@ -21,8 +23,22 @@ pub fn step(w: &mut Warp, kernel: &[u32], v: &mut VectorFile, data: &mut [u8]) -
         return Err(Refusal::Waiting);
     }
     let word = fetch(w, kernel).ok_or(Refusal::NoWord)?;
+    if w.prefix != Prefix::None {
+        return step_behind(w, word, v, data);
+    }
     let insn = decode(word).ok_or(Refusal::NoInstruction)?;
     execute(w, insn, v, data)
+}
+
+/// A word behind a prefix, so that it is no prefix itself. Apart, it leaves the other words as fast
+/// as without it.
+#[cold]
+#[inline(never)]
+fn step_behind(w: &mut Warp, word: u32, v: &mut VectorFile, data: &mut [u8]) -> Step {
+    let insn = decode_after(w.prefix, word).ok_or(Refusal::NoInstruction)?;
+    execute(w, insn, v, data)?;
+    w.prefix = Prefix::None;
+    Ok(())
 }
 
 /// The word that the PC lies on.
@@ -57,6 +73,8 @@ fn execute(w: &mut Warp, insn: Insn, v: &mut VectorFile, data: &mut [u8]) -> Ste
         Insn::SetRpc { rd, rs1, imm } => set_rpc(w, rd, get(w, rs1).wrapping_add(imm)),
         Insn::EndPrg => return end(w),
         Insn::Barrier => wait(w)?,
+        Insn::RegExt(bits) => w.prefix = Prefix::RegExt(bits),
+        Insn::RegExtI(bits) => w.prefix = Prefix::RegExtI(bits),
         Insn::Vec { op, vd, vs2, src } => {
             // In place: as a function of its own it makes such a step slower by a quarter.
             let src = match src {
@@ -221,11 +239,11 @@ fn csr_read(w: &Warp, csr: u32) -> Option<u32> {
 
 fn csr_step(w: &mut Warp, op: CsrOp, rd: X, csr: u32, src: CsrSrc) -> Step {
     let old = csr_read(w, csr).ok_or(Refusal::Csr)?;
-    let (operand, field_zero) = match src {
+    let (operand, zero) = match src {
         CsrSrc::X(rs1) => (get(w, rs1), rs1.index() == 0),
         CsrSrc::I(imm) => (imm, imm == 0),
     };
-    if op == CsrOp::Write || !field_zero {
+    if op == CsrOp::Write || !zero {
         let new = match op {
             CsrOp::Write => operand,
             CsrOp::Set => old | operand,
@@ -463,7 +481,8 @@ fn scalar_place(w: &Warp, data: &[u8], rs1: X, off: u32, size: usize) -> Result<
     place(data, w.fixed.data_base, get(w, rs1).wrapping_add(off), size)
 }
 
-#[inline]
+// In place: as a function of its own it makes a step of loads slower by a fifth.
+#[inline(always)]
 fn load(data: &[u8], kind: LoadKind, at: usize) -> u32 {
     match kind {
         LoadKind::B => data[at] as i8 as u32,

@@ -4,12 +4,18 @@
 
 use crate::case::{evaluate, launch_words, Case, Data, Job, Kernel, Shown, Vector};
 use crate::exec::address;
-use crate::isa::{Space, ENDPRG, JOIN};
+use crate::generate_prefixes::{csrs_behind_a_prefix, digits, prefixes, random_prefix};
+use crate::isa::{Space, ENDPRG, JOIN, SCALARS};
 use crate::state::{Fixed, Launch, Split, Warp};
 use crate::table::{
-    enc_b, enc_i, enc_j, enc_s, rd, rs1, rs2, Shape, Table, Variant, BARRIER, NOP, RD, RS1, RS2,
+    enc_b, enc_i, enc_j, enc_s, rd, regext, regexti, rs1, rs2, Shape, Table, Variant, BARRIER, NOP,
+    RD, RS1, RS2,
 };
-use crate::{card, saved};
+use crate::{card, run, saved};
+
+/// The words of a vector file, and lengths that are not a state's.
+const VECTOR: u32 = run::VECTOR_WORDS as u32;
+pub const NO_STATE: [usize; 6] = [0, 1, 207, 240, 242, 256];
 
 /// xorshift64*, from fixed seeds.
 pub struct Rng(u64);
@@ -53,10 +59,10 @@ const CORNERS: [u32; 10] =
 
 // Words.
 
-fn touches_memory(v: &Variant) -> bool {
+pub(crate) fn touches_memory(v: &Variant) -> bool {
     matches!(v.shape, Shape::Load | Shape::Store | Shape::Vload | Shape::Vstore) || is_private(v)
 }
-fn is_private(v: &Variant) -> bool {
+pub(crate) fn is_private(v: &Variant) -> bool {
     matches!(v.shape, Shape::PrivateLoad | Shape::PrivateStore)
 }
 
@@ -71,7 +77,7 @@ fn size_of(v: &Variant) -> u32 {
 }
 
 /// An access at a register plus offset: into register `value`, or from it.
-fn access(v: &Variant, address: u32, value: u32, off: i32) -> u32 {
+pub(crate) fn access(v: &Variant, address: u32, value: u32, off: i32) -> u32 {
     let off = if is_private(v) { off & 0x7ff } else { off };
     let fields = match v.shape {
         Shape::Load | Shape::Vload | Shape::PrivateLoad => rd(value) | enc_i(off),
@@ -152,12 +158,12 @@ fn target(rng: &mut Rng, at: u32, words: u32, forward: bool, wild: bool) -> i32 
 
 /// How the words of a kernel are drawn.
 #[derive(Clone, Copy)]
-struct Place {
-    at: u32,
-    words: u32,
-    forward: bool,
+pub(crate) struct Place {
+    pub(crate) at: u32,
+    pub(crate) words: u32,
+    pub(crate) forward: bool,
     /// Let some words be refused (7 to 9, 14).
-    wild: bool,
+    pub(crate) wild: bool,
 }
 
 /// A word of a variant. A private access has one before it that makes its u small; if `wild`,
@@ -171,11 +177,11 @@ fn push_drawn(rng: &mut Rng, t: &Table, v: &Variant, p: Place, kernel: &mut Vec<
 }
 
 /// One word of a variant. x31 is taken to hold the code base.
-fn draw(rng: &mut Rng, v: &Variant, p: Place) -> u32 {
+pub(crate) fn draw(rng: &mut Rng, v: &Variant, p: Place) -> u32 {
     let any = v.fixed | rng.word() & v.free;
     let wild = p.wild && rng.chance(20);
     match v.shape {
-        Shape::Plain | Shape::Control | Shape::VmvXS => any,
+        Shape::Plain | Shape::Control | Shape::VmvXS | Shape::Prefix => any,
         Shape::Jal => v.fixed | any & RD | enc_j(target(rng, p.at, p.words, p.forward, p.wild)),
         Shape::Jalr => {
             let to = p.at as i32 * 4 + target(rng, p.at, p.words, p.forward, p.wild);
@@ -228,15 +234,15 @@ fn some_lanes(rng: &mut Rng, of: u32) -> u32 {
 }
 
 /// What a case lends besides the kernel.
-struct Ground {
-    fixed: Fixed,
-    data: Data,
-    vector: Vector,
+pub(crate) struct Ground {
+    pub(crate) fixed: Fixed,
+    pub(crate) data: Data,
+    pub(crate) vector: Vector,
 }
 
 /// Launch values and runs in which custom addresses are inside the data and
 /// private addresses with small numbers too.
-fn ground(rng: &mut Rng, kernel_words: u32) -> Ground {
+pub(crate) fn ground(rng: &mut Rng, kernel_words: u32) -> Ground {
     let numt = rng.pick(&[1, 2, 3, 4, 4, 5, 8, 8, 16, 17, 31, 32, 32, 32]);
     let numw = rng.pick(&[1, 1, 1, 2, 2, 3, 5, 32]);
     let wid = rng.below(numw);
@@ -269,7 +275,7 @@ fn ground(rng: &mut Rng, kernel_words: u32) -> Ground {
     // The largest power of two in the room, less one: addresses meet often.
     let full = (1u32 << (31 - room.leading_zeros())) - 1;
     let vector = Vector {
-        total: 1024,
+        total: VECTOR,
         seed: rng.word(),
         base: data_base.wrapping_add(8),
         mask: if rng.chance(4) { full & 7 } else { full },
@@ -282,21 +288,34 @@ fn ground(rng: &mut Rng, kernel_words: u32) -> Ground {
 fn random_state(rng: &mut Rng, g: &Ground, words: u32, depth: u32) -> Warp {
     let f = &g.fixed;
     let mut warp = Warp { fixed: *f, mask: f.mask, ..Warp::default() };
-    for r in 1..32 {
-        warp.x[r] = match r % 4 {
-            0 => rng.word(),
-            1 => rng.below(16),
-            2 => g.vector.base.wrapping_add(rng.word() & g.vector.mask),
-            _ => rng.pick(&CORNERS),
-        };
-    }
-    warp.x[31] = f.code_base;
+    fill_registers(rng, g, &mut warp.x[..32]);
     warp.pc = f.code_base;
     warp.rpc = kernel_pc(rng, f, words);
     warp.print = rng.below(4);
     open_splits(rng, &mut warp, words, depth);
     assert!(warp.well_formed());
     warp
+}
+
+/// As `random_state`, with values in the upper registers too.
+pub(crate) fn extended_state(rng: &mut Rng, g: &Ground, words: u32, depth: u32) -> Warp {
+    let mut warp = random_state(rng, g, words, depth);
+    fill_registers(rng, g, &mut warp.x[32..]);
+    warp.x[32] = rng.word();
+    warp
+}
+
+/// 32 registers by our custom; the first is left, and the last holds the code base.
+fn fill_registers(rng: &mut Rng, g: &Ground, x: &mut [u32]) {
+    for (n, value) in x.iter_mut().enumerate().skip(1) {
+        *value = match n % 4 {
+            0 => rng.word(),
+            1 => rng.below(16),
+            2 => g.vector.base.wrapping_add(rng.word() & g.vector.mask),
+            _ => rng.pick(&CORNERS),
+        };
+    }
+    x[31] = g.fixed.code_base;
 }
 
 /// Up to `depth` splits, while two lanes are left; deep chains mostly lose one
@@ -331,7 +350,7 @@ fn kernel_pc(rng: &mut Rng, f: &Fixed, words: u32) -> u32 {
     f.code_base.wrapping_add(4 * rng.below(words))
 }
 
-fn state_case(warp: &Warp, kernel: Vec<u32>, g: Ground, budget: u32) -> Case {
+pub(crate) fn state_case(warp: &Warp, kernel: Vec<u32>, g: Ground, budget: u32) -> Case {
     Case::State {
         state: saved::to_words(warp).to_vec(),
         kernel: Kernel::plain(kernel),
@@ -353,7 +372,7 @@ fn job_of(g: Ground, entry: u32, kernel: Vec<u32>) -> Job {
     Job { card, kernel: Kernel::plain(kernel), data: g.data, vector: g.vector }
 }
 
-fn launch_case(g: Ground, entry: u32, kernel: Vec<u32>, budget: u32) -> Case {
+pub(crate) fn launch_case(g: Ground, entry: u32, kernel: Vec<u32>, budget: u32) -> Case {
     Case::Launch { job: job_of(g, entry, kernel), budget, shown: Shown::All }
 }
 
@@ -366,7 +385,7 @@ pub(crate) fn plain_job(numt: u32, kernel: Vec<u32>) -> Job {
 }
 
 /// A small fixed ground: NUMT 4 of one warp, 32 bytes of data.
-fn plain_ground() -> Ground {
+pub(crate) fn plain_ground() -> Ground {
     Ground {
         fixed: Fixed {
             numt: 4,
@@ -377,7 +396,7 @@ fn plain_ground() -> Ground {
             ..Fixed::default()
         },
         data: Data { bytes: Vec::new(), total: 32, seed: 1 },
-        vector: Vector { total: 1024, seed: 0, base: 0, mask: 0 },
+        vector: Vector { total: VECTOR, seed: 0, base: 0, mask: 0 },
     }
 }
 
@@ -396,6 +415,7 @@ pub fn all_cases(round: u32) -> Vec<Case> {
     trips(round, &table, &mut out);
     controls(round, &mut out);
     csrs(&table, &mut out);
+    prefixes(round, &table, &mut out);
     near_words(round, &table, &mut out);
     data_ends(round, &table, &mut out);
     privates(round, &table, &mut out);
@@ -436,11 +456,11 @@ fn lengthen_budgets(round: u32, out: &mut [Case]) {
 /// Each variant on its own, in a few words of itself.
 fn directed(round: u32, t: &Table, out: &mut Vec<Case>) {
     let mut rng = Rng::of_family(round, 1);
-    for v in t.with(|v| v.shape != Shape::Control) {
-        for n in 0..10 {
+    for v in t.with(|v| !matches!(v.shape, Shape::Control | Shape::Prefix)) {
+        for n in 0..8 {
             let rng = &mut rng;
             let words: u32 = 8;
-            let wild = n >= 8;
+            let wild = n >= 6;
             let mut kernel = Vec::new();
             while (kernel.len() as u32) < words {
                 if v.shape == Shape::VmvXS {
@@ -475,7 +495,7 @@ fn corners(round: u32, t: &Table, out: &mut Vec<Case>) {
 }
 
 /// x1 to x10 hold the corners.
-fn corner_state(g: &Ground) -> Warp {
+pub(crate) fn corner_state(g: &Ground) -> Warp {
     let mut warp = Warp { fixed: g.fixed, mask: g.fixed.mask, ..Warp::default() };
     warp.pc = g.fixed.code_base;
     warp.x[1..11].copy_from_slice(&CORNERS);
@@ -483,12 +503,12 @@ fn corner_state(g: &Ground) -> Warp {
 }
 
 /// All 32 lanes over a register whose lanes hold corners (number 3 modulo 4).
-fn corner_ground(rng: &mut Rng, words: u32) -> Ground {
+pub(crate) fn corner_ground(rng: &mut Rng, words: u32) -> Ground {
     let mut g = ground(rng, words);
     (g.fixed.numt, g.fixed.mask) = (32, u32::MAX);
     g
 }
-fn corner_register(rng: &mut Rng) -> u32 {
+pub(crate) fn corner_register(rng: &mut Rng) -> u32 {
     3 + 4 * rng.below(8)
 }
 
@@ -547,7 +567,7 @@ fn corner_lanes(rng: &mut Rng, t: &Table, out: &mut Vec<Case>) {
 }
 
 fn corner_vbranches(rng: &mut Rng, t: &Table, out: &mut Vec<Case>) {
-    for v in t.with(|v| v.shape == Shape::Branch && v.fixed & 0x7f == 0x5b) {
+    for v in t.with(Variant::is_vbranch) {
         for _ in 0..12 {
             let g = corner_ground(rng, 2);
             let word = v.fixed | rs1(corner_register(rng)) | rs2(corner_register(rng)) | enc_b(8);
@@ -587,16 +607,17 @@ fn uniforms(round: u32, t: &Table, out: &mut Vec<Case>) {
     }
 }
 
-/// Legal words in any order, from any well-formed state.
+/// Legal words in any order, some of them behind a prefix, from any well-formed state.
 fn soup(round: u32, t: &Table, out: &mut Vec<Case>) {
     let mut rng = Rng::of_family(round, 2);
     let rng = &mut rng;
     let vector = t.with(|v| v.fixed & 0x7f == 0x57 && v.shape == Shape::Plain);
     let memory = t.with(touches_memory);
-    let vbranch = t.with(|v| v.shape == Shape::Branch && v.fixed & 0x7f == 0x5b);
-    let scalar =
-        t.with(|v| !matches!(v.shape, Shape::Control | Shape::VmvXS) && v.fixed & 0x7f != 0x57);
-    for _ in 0..1000 {
+    let vbranch = t.with(Variant::is_vbranch);
+    let scalar = t.with(|v| {
+        !matches!(v.shape, Shape::Control | Shape::VmvXS | Shape::Prefix) && v.fixed & 0x7f != 0x57
+    });
+    for _ in 0..900 {
         let words = 6 + rng.below(18);
         let mut kernel = Vec::new();
         while (kernel.len() as u32) < words {
@@ -612,11 +633,18 @@ fn soup(round: u32, t: &Table, out: &mut Vec<Case>) {
                 15 if rng.chance(6) => t.get("vmv.x.s"),
                 _ => rng.pick(&scalar),
             };
+            if rng.chance(if v.takes_regext() { 5 } else { 60 }) && !is_private(v) {
+                kernel.push(random_prefix(rng, v));
+            }
             push_drawn(rng, t, v, p, &mut kernel);
         }
         let g = ground(rng, kernel.len() as u32);
         let depth = rng.pick(&[0, 0, 0, 1, 2, 3, 4, 12]);
-        let mut warp = random_state(rng, &g, words, depth);
+        let mut warp = if rng.chance(3) {
+            random_state(rng, &g, words, depth)
+        } else {
+            extended_state(rng, &g, words, depth)
+        };
         if rng.chance(3) {
             warp.pc = kernel_pc(rng, &g.fixed, words);
         }
@@ -648,7 +676,7 @@ impl<'a> Builder<'a> {
             scalar: t.with(|v| {
                 v.shape == Shape::Plain && matches!(v.fixed & 0x7f, 0x13 | 0x33 | 0x37 | 0x17)
             }),
-            vbranch: t.with(|v| v.shape == Shape::Branch && v.fixed & 0x7f == 0x5b),
+            vbranch: t.with(Variant::is_vbranch),
         }
     }
     fn op(&mut self, name: &str, fields: u32) {
@@ -700,6 +728,7 @@ impl<'a> Builder<'a> {
                 4 => {
                     let v = rng.pick(&self.scalar);
                     let word = v.fixed | rng.word() & v.free;
+                    self.prefix(rng, v, 6);
                     self.words.push(word & !RD | rd(10 + rng.below(12)));
                 }
                 5..=6 => self.lane_access(rng),
@@ -716,9 +745,21 @@ impl<'a> Builder<'a> {
         }
     }
 
+    /// One word of so many has a prefix: registers of few numbers, so that they meet.
+    fn prefix(&mut self, rng: &mut Rng, v: &Variant, one_in: u32) {
+        if rng.chance(one_in) {
+            let few = rng.pick(&[1, 1, 7]);
+            let [xd, x1, x2] = digits(rng, v).map(|digit| digit & few);
+            let lengthened = v.is_vi() && rng.chance(2);
+            let imm = rng.below(64);
+            self.words.push(if lengthened { regexti(imm, x2, xd) } else { regext(x2, x1, xd) });
+        }
+    }
+
     /// Over v1 to v15, into v4 to v15.
     fn lane_operation(&mut self, rng: &mut Rng) {
         let v = rng.pick(&self.vector);
+        self.prefix(rng, v, 4);
         let any = v.fixed | rng.word() & v.free;
         let mut word = any & !RD | rd(4 + rng.below(12));
         if v.free & RS2 != 0 {
@@ -821,7 +862,7 @@ impl<'a> Builder<'a> {
 fn structured(round: u32, t: &Table, out: &mut Vec<Case>) {
     let mut rng = Rng::of_family(round, 3);
     let rng = &mut rng;
-    for n in 0..1200 {
+    for n in 0..1000 {
         let mut b =
             Builder::new(t, rng.pick(&[20, 28, 34, 34, 60]), if n % 2 == 0 { 0 } else { 4 });
         let mut g = ground(rng, 200);
@@ -944,15 +985,21 @@ fn controls(round: u32, out: &mut Vec<Case>) {
     }
 }
 
+/// Every CSR has another value.
+pub(crate) fn csr_ground() -> Ground {
+    let mut g = plain_ground();
+    (g.fixed.numt, g.fixed.numw, g.fixed.wid) = (7, 9, 5);
+    (g.fixed.knl, g.fixed.wgid, g.fixed.lds, g.fixed.pds) = (31, 32, 33, 34);
+    (g.fixed.gidx, g.fixed.gidy, g.fixed.gidz) = (35, 36, 37);
+    g
+}
+
 /// Every CSR and its neighbours, in all six forms, writing and not.
 fn csrs(t: &Table, out: &mut Vec<Case>) {
     for csr in (0x7fc..0x812).chain([0, 1, 0x300, 0x880, 0xc00, 0xfff]) {
         for v in t.with(|v| v.shape == Shape::Csr) {
             for field in [0, 5] {
-                let mut g = plain_ground();
-                (g.fixed.numt, g.fixed.numw, g.fixed.wid) = (7, 9, 5);
-                (g.fixed.knl, g.fixed.wgid, g.fixed.lds, g.fixed.pds) = (31, 32, 33, 34);
-                (g.fixed.gidx, g.fixed.gidy, g.fixed.gidz) = (35, 36, 37);
+                let g = csr_ground();
                 let kernel = vec![
                     t.fixed("addi") | rd(5) | enc_i(if csr % 3 == 0 { 0 } else { 0x155 }),
                     t.fixed("csrrwi") | rs1(28) | enc_i(0x80b),
@@ -964,6 +1011,7 @@ fn csrs(t: &Table, out: &mut Vec<Case>) {
             }
         }
     }
+    csrs_behind_a_prefix(t, out);
 }
 
 /// Words of what is not here; the last two are, though they look like another.
@@ -1024,7 +1072,7 @@ fn near_words(round: u32, t: &Table, out: &mut Vec<Case>) {
     let mut rng = Rng::of_family(round, 7);
     let mut words = beside_legal(&mut rng, t);
     words.extend(FOREIGN_WORDS);
-    words.extend((0..200).map(|_| rng.word()));
+    words.extend((0..150).map(|_| rng.word()));
     for (n, word) in words.into_iter().enumerate() {
         let mut g = plain_ground();
         g.fixed.numt = 1 + n as u32 % 32;
@@ -1412,10 +1460,16 @@ struct Sizes {
 }
 
 fn lent_sizes() -> Vec<Sizes> {
-    let plain =
-        Sizes { kernel: 2, vector: 1024, data: 8, code_base: 0x8000_0000, data_base: 0x9000_0000 };
+    let plain = Sizes {
+        kernel: 2,
+        vector: VECTOR,
+        data: 8,
+        code_base: 0x8000_0000,
+        data_base: 0x9000_0000,
+    };
     let kernels = [0, 1, 2, 16_383, 16_384, 16_385].map(|kernel| Sizes { kernel, ..plain });
-    let vectors = [1024, 0, 1, 32, 992, 1023, 1025, 1056].map(|vector| Sizes { vector, ..plain });
+    let vectors = [VECTOR, 0, 1, 32, 1024, VECTOR - 1, VECTOR + 1, VECTOR + 32]
+        .map(|vector| Sizes { vector, ..plain });
     let datas = [0, 1, 65_535, 65_536, 65_537].map(|data| Sizes { data, ..plain });
     let code_ends = [
         (1, 0xffff_fffc),
@@ -1553,13 +1607,21 @@ fn cards_written(rng: &mut Rng, out: &mut Vec<Case>) {
     }
 }
 
+/// The clauses that `break_state` knows, and those of them that it breaks by chance.
+const CLAUSES: u32 = 44;
+const BY_CHANCE: u32 = 9;
+
 /// Break one clause of well-formedness, if the state allows it.
 fn break_state(rng: &mut Rng, w: &mut [u32], clause: u32) {
     let open = w[saved::OPEN_AT];
     let split = |n: u32, field: usize| saved::SPLITS_AT + 5 * n as usize + field;
     let at = saved::OPEN_AT;
-    let (pc, mask, ended, waiting) = (at + 1, at + 2, at + 5, at + 6);
-    let (numt, numw, wid, launch_mask, code_base) = (at + 7, at + 8, at + 9, at + 10, at + 11);
+    let (pc, mask, ended, waiting) =
+        (saved::PC_AT, saved::MASK_AT, saved::ENDED_AT, saved::WAITING_AT);
+    let (kind, bits) = (saved::PREFIX_AT, saved::PREFIX_AT + 1);
+    let fixed = saved::FIXED_AT;
+    let (numt, numw, wid, launch_mask, code_base) =
+        (fixed, fixed + 1, fixed + 2, fixed + 3, fixed + 4);
     let some = if open == 0 { 0 } else { rng.below(open) };
     match clause {
         0 => w[numt] = rng.pick(&[0, 33, 64, u32::MAX]),
@@ -1591,6 +1653,14 @@ fn break_state(rng: &mut Rng, w: &mut [u32], clause: u32) {
         26 => w[mask] = 0,
         27 => w[mask] = w[launch_mask],
         28 => w[split(some, 0)] = rng.word(), // an rpc is free
+        // A prefix of no kind, with too many bits, with bits alone, of a warp that has ended or
+        // waits; and one that may be.
+        29 => (w[kind], w[bits]) = (rng.pick(&[3, 4, 0x101, u32::MAX]), rng.below(4096)),
+        30 => (w[kind], w[bits]) = (rng.pick(&[1, 2]), rng.pick(&[4096, 4097, 8191, u32::MAX])),
+        31 => (w[kind], w[bits]) = (0, 1 << rng.below(16)),
+        32 => (w[ended], w[kind], w[bits]) = (1, rng.pick(&[1, 2]), rng.below(4096)),
+        33 => (w[waiting], w[kind], w[bits]) = (1, rng.pick(&[1, 2]), rng.pick(&[0, 4095])),
+        34 => (w[kind], w[bits]) = (rng.pick(&[1, 2]), rng.pick(&[0, 1, 0x800, 4095])),
         _ => {
             let at = rng.below(saved::WORDS as u32) as usize;
             w[at] = if rng.chance(2) { w[at] ^ 1 << rng.below(32) } else { rng.word() };
@@ -1607,14 +1677,17 @@ fn ill_formed(round: u32, out: &mut Vec<Case>) {
         if n % 4 == 0 {
             (g.fixed.numt, g.fixed.mask) = (32, u32::MAX);
         }
-        let depth = rng.pick(&[0, 1, 2, 3, 3, 4, 20]);
+        let clause = n % CLAUSES;
+        // That a warp has ended or waits is wrong by its prefix alone.
+        let depths = if matches!(clause, 32 | 33) { &[0; 7] } else { &[0, 1, 2, 3, 3, 4, 20] };
+        let depth = rng.pick(depths);
         let mut warp = random_state(rng, &g, words, depth);
-        warp.x = [0; 32]; // the registers do not matter here
+        warp.x = [0; SCALARS]; // the registers do not matter here
         warp.x[5] = rng.word();
         let mut state = saved::to_words(&warp).to_vec();
-        break_state(rng, &mut state, n % 38);
+        break_state(rng, &mut state, clause);
         if n % 100 == 99 {
-            state.resize(rng.pick(&[0, 1, 206, 208, 240]), 0);
+            state.resize(rng.pick(&NO_STATE), 0);
         }
         let kernel = vec![NOP, rng.pick(&[JOIN, NOP, ENDPRG]), JOIN];
         out.push(Case::State {
@@ -1670,7 +1743,7 @@ fn releases(round: u32, out: &mut Vec<Case>) {
         let depth = if n % 4 == 1 { 2 } else { 0 };
         let mut warp = random_state(rng, &g, 3, depth);
         if n % 3 != 0 {
-            warp.x = [0; 32];
+            warp.x = [0; SCALARS];
         }
         if warp.depth == 0 {
             warp.waiting = n % 4 != 2;
@@ -1678,10 +1751,10 @@ fn releases(round: u32, out: &mut Vec<Case>) {
         }
         let mut state = saved::to_words(&warp).to_vec();
         if n % 4 == 3 {
-            break_state(rng, &mut state, n / 4 % 38);
+            break_state(rng, &mut state, n / 4 % CLAUSES);
         }
         if n % 40 == 39 {
-            state.resize(rng.pick(&[0, 1, 206, 208]), 0);
+            state.resize(rng.pick(&NO_STATE), 0);
         }
         out.push(Case::Release { state });
     }
@@ -1696,7 +1769,7 @@ fn precedence(round: u32, out: &mut Vec<Case>) {
 
 /// Sizes (1) before each clause of well-formedness (2).
 fn sizes_before_form(rng: &mut Rng, out: &mut Vec<Case>) {
-    for clause in 0..28 {
+    for clause in 0..CLAUSES - BY_CHANCE {
         let g = ground(rng, 3);
         let warp = random_state(rng, &g, 3, 2);
         let mut state = saved::to_words(&warp).to_vec();
@@ -1704,7 +1777,7 @@ fn sizes_before_form(rng: &mut Rng, out: &mut Vec<Case>) {
         let (mut kernel, mut vector, mut data) = (Kernel::plain(vec![NOP; 3]), g.vector, g.data);
         match clause % 3 {
             0 => kernel = Kernel { words: vec![], total: rng.pick(&[0, 16_385]), fill: NOP },
-            1 => vector.total = rng.pick(&[1023, 1025]),
+            1 => vector.total = rng.pick(&[VECTOR - 1, VECTOR + 1]),
             _ => data.total = 65_537,
         }
         out.push(Case::State { state, kernel, data, vector, budget: clause % 2 });
@@ -1715,7 +1788,7 @@ fn any_faults(rng: &mut Rng, out: &mut Vec<Case>) {
     for n in 0..200 {
         let g = ground(rng, 3);
         let mut warp = random_state(rng, &g, 3, 0);
-        warp.x = [0; 32];
+        warp.x = [0; SCALARS];
         warp.ended = rng.chance(3);
         warp.waiting = !warp.ended && rng.chance(3);
         if rng.chance(3) {
@@ -1723,7 +1796,7 @@ fn any_faults(rng: &mut Rng, out: &mut Vec<Case>) {
         }
         let mut state = saved::to_words(&warp).to_vec();
         if rng.chance(3) {
-            break_state(rng, &mut state, n % 38);
+            break_state(rng, &mut state, n % CLAUSES);
         }
         if rng.chance(12) {
             state.pop();
@@ -1732,7 +1805,7 @@ fn any_faults(rng: &mut Rng, out: &mut Vec<Case>) {
             if rng.chance(6) { vec![] } else { vec![rng.pick(&[0, NOP, 0x6f | enc_j(2)]); 3] };
         let mut vector = g.vector;
         if rng.chance(8) {
-            vector.total = rng.pick(&[0, 1023, 1025]);
+            vector.total = rng.pick(&[0, 1024, VECTOR - 1, VECTOR + 1]);
         }
         let mut data = g.data;
         if rng.chance(12) {

@@ -4,6 +4,7 @@
 
 use crate::case::{Case, Job};
 use crate::generate::{all_cases, plain_job, Rng};
+use crate::generate_prefixes::prefixed_kernels;
 use crate::isa::{ENDPRG, JOIN};
 use crate::sheet::{run_steps, sheet_of, SHEET_BYTES, STEPS, STEP_BYTES};
 use crate::table::{enc_b, enc_i, enc_j, rd, rs1, rs2, Table, NOP};
@@ -108,6 +109,7 @@ fn own_jobs() -> Vec<Job> {
         splits_for_ever(32),
     ];
     jobs.extend(first_refused.map(|word| plain_job(4, vec![word, ENDPRG])));
+    jobs.extend(prefixed_kernels(t).into_iter().map(|kernel| plain_job(4, kernel)));
     jobs
 }
 

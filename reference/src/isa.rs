@@ -1,28 +1,49 @@
-//! The instruction tables: one 32-bit word to one `Insn`, or nothing.
+//! The instruction tables: one 32-bit word, alone or behind a prefix, to one `Insn`, or nothing.
 
-/// A scalar register number, below 32.
+pub const SCALARS: usize = 64;
+pub const VECTORS: usize = 256;
+
+/// A scalar register number, below 64.
 #[derive(Clone, Copy, Debug, PartialEq, Eq)]
 pub struct X(u8);
 
-/// A vector register number, below 32.
+/// A vector register number, below 256.
 #[derive(Clone, Copy, Debug, PartialEq, Eq)]
 pub struct V(u8);
 
 impl X {
     pub const fn new(n: u32) -> X {
-        X((n & 31) as u8)
+        X(n as u8 & 63)
     }
     pub const fn index(self) -> usize {
-        (self.0 & 31) as usize
+        (self.0 & 63) as usize
     }
 }
 
 impl V {
     pub const fn new(n: u32) -> V {
-        V((n & 31) as u8)
+        V(n as u8)
     }
     pub const fn index(self) -> usize {
-        (self.0 & 31) as usize
+        self.0 as usize
+    }
+}
+
+/// A prefix that was taken and waits for its word, with its 12 bits.
+#[derive(Clone, Copy, Debug, Default, PartialEq, Eq)]
+pub enum Prefix {
+    #[default]
+    None,
+    RegExt(u32),
+    RegExtI(u32),
+}
+
+impl Prefix {
+    pub fn bits(self) -> u32 {
+        match self {
+            Prefix::None => 0,
+            Prefix::RegExt(bits) | Prefix::RegExtI(bits) => bits,
+        }
     }
 }
 
@@ -211,6 +232,9 @@ pub enum Insn {
     },
     EndPrg,
     Barrier,
+    /// The two prefixes, with their 12 bits.
+    RegExt(u32),
+    RegExtI(u32),
     Vec {
         op: VOp,
         vd: V,
@@ -301,55 +325,142 @@ const fn funct7(w: u32) -> u32 {
     field(w, 31, 25)
 }
 
-// The fields as registers: result, first and second operand.
-
-const fn xd(w: u32) -> X {
-    X::new(rd(w))
-}
-const fn x1(w: u32) -> X {
-    X::new(rs1(w))
-}
-const fn x2(w: u32) -> X {
-    X::new(rs2(w))
-}
-const fn vd(w: u32) -> V {
-    V::new(rd(w))
-}
-const fn v1(w: u32) -> V {
-    V::new(rs1(w))
-}
-const fn v2(w: u32) -> V {
-    V::new(rs2(w))
+/// What a prefix puts on top of its word: a digit on each register field, and six bits on the
+/// immediate of a VI form. The digit x3 is for no field of these tables.
+#[derive(Clone, Copy)]
+struct Above {
+    xd: u32,
+    x1: u32,
+    x2: u32,
+    imm: Option<u32>,
 }
 
-/// The instruction that a word stands for; `None` is refusal 6.
+const NOTHING: Above = Above { xd: 0, x1: 0, x2: 0, imm: None };
+
+impl Above {
+    const fn of(prefix: Prefix) -> Above {
+        match prefix {
+            Prefix::None => NOTHING,
+            Prefix::RegExt(bits) => Above {
+                xd: field(bits, 2, 0),
+                x1: field(bits, 5, 3),
+                x2: field(bits, 8, 6),
+                imm: None,
+            },
+            Prefix::RegExtI(bits) => Above {
+                xd: field(bits, 2, 0),
+                x1: 0,
+                x2: field(bits, 5, 3),
+                imm: Some(field(bits, 11, 6)),
+            },
+        }
+    }
+
+    // The fields as registers: result, first and second operand. There is no scalar register above
+    // 63.
+
+    #[inline(always)]
+    fn xd(self, w: u32) -> Option<X> {
+        scalar(self.xd, rd(w))
+    }
+    #[inline(always)]
+    fn x1(self, w: u32) -> Option<X> {
+        scalar(self.x1, rs1(w))
+    }
+    #[inline(always)]
+    fn x2(self, w: u32) -> Option<X> {
+        scalar(self.x2, rs2(w))
+    }
+    #[inline(always)]
+    fn vd(self, w: u32) -> V {
+        V::new(32 * self.xd + rd(w))
+    }
+    #[inline(always)]
+    fn v1(self, w: u32) -> V {
+        V::new(32 * self.x1 + rs1(w))
+    }
+    #[inline(always)]
+    fn v2(self, w: u32) -> V {
+        V::new(32 * self.x2 + rs2(w))
+    }
+
+    /// The immediate of a VI form, sign-extended: five bits, or eleven.
+    #[inline(always)]
+    fn immediate(self, w: u32) -> u32 {
+        match self.imm {
+            None => sext(rs1(w), 5),
+            Some(six) => sext(six << 5 | rs1(w), 11),
+        }
+    }
+}
+
+#[inline(always)]
+fn scalar(digit: u32, field: u32) -> Option<X> {
+    let number = 32 * digit + field;
+    ((number as usize) < SCALARS).then(|| X::new(number))
+}
+
+/// The instruction that a word alone stands for; `None` is refusal 6.
 #[inline(always)]
 pub fn decode(w: u32) -> Option<Insn> {
+    decode_under(NOTHING, w)
+}
+
+/// The instruction that a word stands for behind what is pending; `None` is refusal 6.
+pub fn decode_after(prefix: Prefix, w: u32) -> Option<Insn> {
+    let insn = decode_under(Above::of(prefix), w)?;
+    let taken = match prefix {
+        Prefix::None => true,
+        Prefix::RegExt(_) => !matches!(
+            insn,
+            Insn::RegExt(_)
+                | Insn::RegExtI(_)
+                | Insn::Vbranch { .. }
+                | Insn::Join
+                | Insn::EndPrg
+                | Insn::Barrier
+        ),
+        Prefix::RegExtI(_) => matches!(insn, Insn::Vec { src: VSrc::I(_), .. }),
+    };
+    taken.then_some(insn)
+}
+
+#[inline(always)]
+fn decode_under(a: Above, w: u32) -> Option<Insn> {
     let insn = match field(w, 6, 0) {
-        0b011_0111 => Insn::Lui { rd: xd(w), imm: w & 0xffff_f000 },
-        0b001_0111 => Insn::Auipc { rd: xd(w), imm: w & 0xffff_f000 },
-        0b110_1111 => Insn::Jal { rd: xd(w), off: imm_j(w) },
-        0b110_0111 if funct3(w) == 0 => Insn::Jalr { rd: xd(w), rs1: x1(w), imm: imm_i(w) },
-        0b110_0011 => {
-            Insn::Branch { cond: condition(funct3(w))?, rs1: x1(w), rs2: x2(w), off: imm_b(w) }
-        }
+        0b011_0111 => Insn::Lui { rd: a.xd(w)?, imm: w & 0xffff_f000 },
+        0b001_0111 => Insn::Auipc { rd: a.xd(w)?, imm: w & 0xffff_f000 },
+        0b110_1111 => Insn::Jal { rd: a.xd(w)?, off: imm_j(w) },
+        0b110_0111 if funct3(w) == 0 => Insn::Jalr { rd: a.xd(w)?, rs1: a.x1(w)?, imm: imm_i(w) },
+        0b110_0011 => Insn::Branch {
+            cond: condition(funct3(w))?,
+            rs1: a.x1(w)?,
+            rs2: a.x2(w)?,
+            off: imm_b(w),
+        },
         0b000_0011 => {
-            Insn::Load { kind: load_kind(funct3(w))?, rd: xd(w), rs1: x1(w), off: imm_i(w) }
+            Insn::Load { kind: load_kind(funct3(w))?, rd: a.xd(w)?, rs1: a.x1(w)?, off: imm_i(w) }
         }
-        0b010_0011 => {
-            Insn::Store { kind: store_kind(funct3(w))?, rs1: x1(w), rs2: x2(w), off: imm_s(w) }
-        }
-        0b001_0011 => return alu_imm(w),
-        0b011_0011 => {
-            Insn::Alu { op: alu_op(funct7(w), funct3(w))?, rd: xd(w), rs1: x1(w), rs2: x2(w) }
-        }
+        0b010_0011 => Insn::Store {
+            kind: store_kind(funct3(w))?,
+            rs1: a.x1(w)?,
+            rs2: a.x2(w)?,
+            off: imm_s(w),
+        },
+        0b001_0011 => return alu_imm(a, w),
+        0b011_0011 => Insn::Alu {
+            op: alu_op(funct7(w), funct3(w))?,
+            rd: a.xd(w)?,
+            rs1: a.x1(w)?,
+            rs2: a.x2(w)?,
+        },
         0b000_1111 if funct3(w) == 0 => Insn::Fence,
-        0b111_0011 => return csr(w),
-        0b101_1011 => return ventus_branch(w),
+        0b111_0011 => return csr(a, w),
+        0b101_1011 => return ventus_branch(a, w),
         0b000_1011 => return ventus_control(w),
-        0b101_0111 => return vector(w),
-        0b111_1011 => return vector_memory(w, Space::Flat),
-        0b010_1011 if field(w, 31, 31) == 0 => return vector_memory(w, Space::Private),
+        0b101_0111 => return vector(a, w),
+        0b111_1011 => return vector_memory(a, w, Space::Flat),
+        0b010_1011 if field(w, 31, 31) == 0 => return vector_memory(a, w, Space::Private),
         _ => return None,
     };
     Some(insn)
@@ -391,7 +502,7 @@ fn store_kind(funct3: u32) -> Option<StoreKind> {
 }
 
 #[inline(always)]
-fn alu_imm(w: u32) -> Option<Insn> {
+fn alu_imm(a: Above, w: u32) -> Option<Insn> {
     let (op, imm) = match (funct3(w), funct7(w)) {
         (0b000, _) => (AluOp::Add, imm_i(w)),
         (0b010, _) => (AluOp::Slt, imm_i(w)),
@@ -404,7 +515,7 @@ fn alu_imm(w: u32) -> Option<Insn> {
         (0b101, 0b010_0000) => (AluOp::Sra, rs2(w)),
         _ => return None,
     };
-    Some(Insn::AluImm { op, rd: xd(w), rs1: x1(w), imm })
+    Some(Insn::AluImm { op, rd: a.xd(w)?, rs1: a.x1(w)?, imm })
 }
 
 #[inline(always)]
@@ -433,52 +544,57 @@ fn alu_op(funct7: u32, funct3: u32) -> Option<AluOp> {
 }
 
 #[inline(always)]
-fn csr(w: u32) -> Option<Insn> {
+fn csr(a: Above, w: u32) -> Option<Insn> {
     let op = match funct3(w) & 0b011 {
         0b01 => CsrOp::Write,
         0b10 => CsrOp::Set,
         0b11 => CsrOp::Clear,
         _ => return None,
     };
-    let src = if funct3(w) & 0b100 == 0 { CsrSrc::X(x1(w)) } else { CsrSrc::I(rs1(w)) };
-    Some(Insn::Csr { op, rd: xd(w), csr: field(w, 31, 20), src })
+    let src = if funct3(w) & 0b100 == 0 { CsrSrc::X(a.x1(w)?) } else { CsrSrc::I(rs1(w)) };
+    Some(Insn::Csr { op, rd: a.xd(w)?, csr: field(w, 31, 20), src })
 }
 
 #[inline(always)]
-fn ventus_branch(w: u32) -> Option<Insn> {
+fn ventus_branch(a: Above, w: u32) -> Option<Insn> {
     match funct3(w) {
         0b010 if w == JOIN => Some(Insn::Join),
-        0b011 => Some(Insn::SetRpc { rd: xd(w), rs1: x1(w), imm: imm_i(w) }),
-        f => Some(Insn::Vbranch { cond: condition(f)?, vs1: v1(w), vs2: v2(w), off: imm_b(w) }),
+        0b011 => Some(Insn::SetRpc { rd: a.xd(w)?, rs1: a.x1(w)?, imm: imm_i(w) }),
+        f => Some(Insn::Vbranch { cond: condition(f)?, vs1: a.v1(w), vs2: a.v2(w), off: imm_b(w) }),
     }
 }
 
 #[inline(always)]
 fn ventus_control(w: u32) -> Option<Insn> {
-    if funct3(w) != 0b100 || rd(w) != 0 || rs2(w) != 0 {
+    if rd(w) != 0 {
         return None;
     }
-    match funct7(w) {
-        0b000_0000 if rs1(w) == 0 => Some(Insn::EndPrg),
-        0b000_0010 => Some(Insn::Barrier),
+    match funct3(w) {
+        0b010 if rs1(w) == 0 => Some(Insn::RegExt(field(w, 31, 20))),
+        0b011 if rs1(w) == 0 => Some(Insn::RegExtI(field(w, 31, 20))),
+        0b100 if rs2(w) == 0 => match funct7(w) {
+            0b000_0000 if rs1(w) == 0 => Some(Insn::EndPrg),
+            0b000_0010 => Some(Insn::Barrier),
+            _ => None,
+        },
         _ => None,
     }
 }
 
 #[inline(always)]
-fn vector(w: u32) -> Option<Insn> {
+fn vector(a: Above, w: u32) -> Option<Insn> {
     if field(w, 25, 25) == 0 {
         return None; // vm = 0
     }
     match funct3(w) {
-        0b000 | 0b011 | 0b100 => vector_integer(w),
-        0b010 | 0b110 => vector_m(w),
+        0b000 | 0b011 | 0b100 => vector_integer(a, w),
+        0b010 | 0b110 => vector_m(a, w),
         _ => None,
     }
 }
 
 #[inline(always)]
-fn vector_integer(w: u32) -> Option<Insn> {
+fn vector_integer(a: Above, w: u32) -> Option<Insn> {
     let funct6 = field(w, 31, 26);
     let (op, vv, vx, vi) = match funct6 {
         0b000000 => (VOp::Add, true, true, true),
@@ -506,19 +622,21 @@ fn vector_integer(w: u32) -> Option<Insn> {
         _ => return None,
     };
     let src = match funct3(w) {
-        0b000 if vv => VSrc::V(v1(w)),
-        0b100 if vx => VSrc::X(x1(w)),
+        0b000 if vv => VSrc::V(a.v1(w)),
+        0b100 if vx => VSrc::X(a.x1(w)?),
         0b011 if vi => VSrc::I(match op {
-            VOp::Sll | VOp::Srl | VOp::Sra => rs1(w),
-            _ => sext(rs1(w), 5),
+            VOp::Sll | VOp::Srl | VOp::Sra => a.immediate(w) & 31,
+            _ => a.immediate(w),
         }),
         _ => return None,
     };
-    Some(Insn::Vec { op, vd: vd(w), vs2: v2(w), src })
+    // Of a move, vs2 is no register: it reads none.
+    let vs2 = if op == VOp::Mv { V::new(0) } else { a.v2(w) };
+    Some(Insn::Vec { op, vd: a.vd(w), vs2, src })
 }
 
 #[inline(always)]
-fn vector_m(w: u32) -> Option<Insn> {
+fn vector_m(a: Above, w: u32) -> Option<Insn> {
     let vv = funct3(w) == 0b010;
     let op = match field(w, 31, 26) {
         0b100000 => VOp::Divu,
@@ -529,18 +647,20 @@ fn vector_m(w: u32) -> Option<Insn> {
         0b100101 => VOp::Mul,
         0b100110 => VOp::Mulhsu,
         0b100111 => VOp::Mulh,
-        0b010000 if vv && rs1(w) == 0 => return Some(Insn::VmvXS { rd: xd(w), vs2: v2(w) }),
-        0b010000 if !vv && rs2(w) == 0 => return Some(Insn::VmvSX { vd: vd(w), rs1: x1(w) }),
-        0b010100 if vv && rs2(w) == 0 && rs1(w) == 0b10001 => return Some(Insn::Vid { vd: vd(w) }),
+        0b010000 if vv && rs1(w) == 0 => return Some(Insn::VmvXS { rd: a.xd(w)?, vs2: a.v2(w) }),
+        0b010000 if !vv && rs2(w) == 0 => return Some(Insn::VmvSX { vd: a.vd(w), rs1: a.x1(w)? }),
+        0b010100 if vv && rs2(w) == 0 && rs1(w) == 0b10001 => {
+            return Some(Insn::Vid { vd: a.vd(w) })
+        }
         _ => return None,
     };
-    let src = if vv { VSrc::V(v1(w)) } else { VSrc::X(x1(w)) };
-    Some(Insn::Vec { op, vd: vd(w), vs2: v2(w), src })
+    let src = if vv { VSrc::V(a.v1(w)) } else { VSrc::X(a.x1(w)?) };
+    Some(Insn::Vec { op, vd: a.vd(w), vs2: a.v2(w), src })
 }
 
 #[inline(always)]
-fn vector_memory(w: u32, space: Space) -> Option<Insn> {
-    let vs1 = v1(w);
+fn vector_memory(a: Above, w: u32, space: Space) -> Option<Insn> {
+    let vs1 = a.v1(w);
     let kind = match funct3(w) {
         0b111 => StoreKind::B,
         0b011 => StoreKind::H,
@@ -550,12 +670,12 @@ fn vector_memory(w: u32, space: Space) -> Option<Insn> {
                 Space::Flat => imm_i(w),
                 Space::Private => sext(field(w, 30, 20), 11),
             };
-            return Some(Insn::Vload { space, kind: load_kind(f)?, vd: vd(w), vs1, off });
+            return Some(Insn::Vload { space, kind: load_kind(f)?, vd: a.vd(w), vs1, off });
         }
     };
     let off = match space {
         Space::Flat => imm_s(w),
         Space::Private => sext(field(w, 30, 25) << 5 | field(w, 11, 7), 11),
     };
-    Some(Insn::Vstore { space, kind, vs1, vs2: v2(w), off })
+    Some(Insn::Vstore { space, kind, vs1, vs2: a.v2(w), off })
 }

@@ -8,6 +8,7 @@ pub mod case;
 pub mod exec;
 pub mod generate;
 pub mod generate_marks;
+mod generate_prefixes;
 pub mod isa;
 pub mod print;
 pub mod run;

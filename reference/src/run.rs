@@ -5,7 +5,7 @@ use crate::state::{Launch, Warp};
 use crate::Refusal;
 
 pub const KERNEL_WORDS: usize = 16_384;
-pub const VECTOR_WORDS: usize = 1_024;
+pub const VECTOR_WORDS: usize = 8_192;
 pub const DATA_BYTES: usize = 65_536;
 
 const SPACE: u64 = 1 << 32;

@@ -1,20 +1,23 @@
-//! A warp as 207 words (the layout is in CASES-FORMAT.md), and the calls over them.
+//! A warp as 241 words (the layout is in CASES-FORMAT.md), and the calls over them.
 
+use crate::isa::{Prefix, SCALARS};
 use crate::state::{Fixed, Split, Warp, SPLITS};
 use crate::{card, code, run, Refusal};
 
-pub const WORDS: usize = 207;
+pub const WORDS: usize = 241;
 
 const SPLIT_WORDS: usize = 5;
-pub const SPLITS_AT: usize = 32;
+pub const SPLITS_AT: usize = SCALARS;
 pub const OPEN_AT: usize = SPLITS_AT + SPLIT_WORDS * SPLITS;
 pub const PC_AT: usize = OPEN_AT + 1;
 pub const MASK_AT: usize = OPEN_AT + 2;
 const RPC_AT: usize = OPEN_AT + 3;
 const PRINT_AT: usize = OPEN_AT + 4;
-const ENDED_AT: usize = OPEN_AT + 5;
-const WAITING_AT: usize = OPEN_AT + 6;
-const FIXED_AT: usize = OPEN_AT + 7;
+pub const ENDED_AT: usize = OPEN_AT + 5;
+pub const WAITING_AT: usize = OPEN_AT + 6;
+/// The kind of the pending prefix, and then its bits.
+pub const PREFIX_AT: usize = OPEN_AT + 7;
+pub const FIXED_AT: usize = OPEN_AT + 9;
 const CODE_BASE_AT: usize = FIXED_AT + 4;
 const DATA_BASE_AT: usize = FIXED_AT + 5;
 
@@ -25,6 +28,11 @@ pub fn to_words(warp: &Warp) -> [u32; WORDS] {
         place.copy_from_slice(&[s.rpc, s.full, s.else_mask, s.else_pc, s.phase_two.into()]);
     }
     let f = &warp.fixed;
+    let prefix_kind = match warp.prefix {
+        Prefix::None => 0,
+        Prefix::RegExt(_) => 1,
+        Prefix::RegExtI(_) => 2,
+    };
     words[OPEN_AT..].copy_from_slice(&[
         warp.depth,
         warp.pc,
@@ -33,6 +41,8 @@ pub fn to_words(warp: &Warp) -> [u32; WORDS] {
         warp.print,
         warp.ended.into(),
         warp.waiting.into(),
+        prefix_kind,
+        warp.prefix.bits(),
         f.numt,
         f.numw,
         f.wid,
@@ -50,14 +60,15 @@ pub fn to_words(warp: &Warp) -> [u32; WORDS] {
     words
 }
 
-/// Read 207 words: another length is 1; a flag or phase that is neither 0
-/// nor 1, or more than 31 open, is 2. Nothing else is tested here.
+/// Read 241 words: another length is 1; a flag or phase that is neither 0
+/// nor 1, more than 31 open, or a prefix of no kind, is 2. Nothing else is
+/// tested here.
 pub fn from_words(words: &[u32]) -> Result<Warp, Refusal> {
     let words: &[u32; WORDS] = words.try_into().map_err(|_| Refusal::Size)?;
     if words[OPEN_AT] as usize > SPLITS {
         return Err(Refusal::IllFormed);
     }
-    let mut x = [0; 32];
+    let mut x = [0; SCALARS];
     x.copy_from_slice(&words[..SPLITS_AT]);
     Ok(Warp {
         x,
@@ -69,6 +80,7 @@ pub fn from_words(words: &[u32]) -> Result<Warp, Refusal> {
         print: words[PRINT_AT],
         ended: flag(words[ENDED_AT])?,
         waiting: flag(words[WAITING_AT])?,
+        prefix: prefix_of(words[PREFIX_AT], words[PREFIX_AT + 1])?,
         fixed: fixed_of(words),
     })
 }
@@ -77,6 +89,16 @@ fn flag(word: u32) -> Result<bool, Refusal> {
     match word {
         0 => Ok(false),
         1 => Ok(true),
+        _ => Err(Refusal::IllFormed),
+    }
+}
+
+/// No prefix has no bits.
+fn prefix_of(kind: u32, bits: u32) -> Result<Prefix, Refusal> {
+    match (kind, bits) {
+        (0, 0) => Ok(Prefix::None),
+        (1, _) => Ok(Prefix::RegExt(bits)),
+        (2, _) => Ok(Prefix::RegExtI(bits)),
         _ => Err(Refusal::IllFormed),
     }
 }

@@ -1,5 +1,7 @@
 //! The state of one warp and what makes it well formed.
 
+use crate::isa::{Prefix, SCALARS};
+
 pub const LANES: usize = 32;
 pub const SPLITS: usize = 31;
 
@@ -72,9 +74,9 @@ impl Launch {
     }
 }
 
-#[derive(Clone, Debug, Default, PartialEq, Eq)]
+#[derive(Clone, Debug, PartialEq, Eq)]
 pub struct Warp {
-    pub x: [u32; 32],
+    pub x: [u32; SCALARS],
     pub splits: [Split; SPLITS],
     /// How many splits are open.
     pub depth: u32,
@@ -84,7 +86,27 @@ pub struct Warp {
     pub print: u32,
     pub ended: bool,
     pub waiting: bool,
+    pub prefix: Prefix,
     pub fixed: Fixed,
+}
+
+/// All zeros.
+impl Default for Warp {
+    fn default() -> Warp {
+        Warp {
+            x: [0; SCALARS],
+            splits: Default::default(),
+            depth: 0,
+            pc: 0,
+            mask: 0,
+            rpc: 0,
+            print: 0,
+            ended: false,
+            waiting: false,
+            prefix: Prefix::None,
+            fixed: Fixed::default(),
+        }
+    }
 }
 
 impl Warp {
@@ -101,6 +123,8 @@ impl Warp {
             && depth <= SPLITS
             && !(self.ended && self.waiting)
             && (depth == 0 || !(self.ended || self.waiting))
+            && (self.prefix == Prefix::None || !(self.ended || self.waiting))
+            && self.prefix.bits() < 1 << 12
             && self.splits[depth..].iter().all(|s| *s == Split::default())
             && self.chain() == Some(self.mask)
     }

@@ -27,6 +27,14 @@ pub enum Shape {
     PrivateStore,
     VmvXS,
     Control,
+    Prefix,
+}
+
+/// Which registers a register field names.
+#[derive(Clone, Copy, Debug, PartialEq, Eq)]
+pub enum File {
+    X,
+    V,
 }
 
 #[derive(Clone, Debug)]
@@ -39,6 +47,9 @@ pub struct Variant {
 
 pub const NOP: u32 = 0x13;
 pub const BARRIER: u32 = 0x0400_400b;
+/// The prefixes with no bits.
+pub const REGEXT: u32 = 0x0000_200b;
+pub const REGEXTI: u32 = 0x0000_300b;
 
 pub const RD: u32 = 0x1f << 7;
 pub const RS1: u32 = 0x1f << 15;
@@ -58,6 +69,48 @@ impl Variant {
     fn plain(name: impl Into<String>, fixed: u32, free: u32) -> Variant {
         Variant::new(name, fixed, free, Shape::Plain)
     }
+
+    fn opcode(&self) -> u32 {
+        self.fixed & 0x7f
+    }
+
+    pub fn is_vbranch(&self) -> bool {
+        self.shape == Shape::Branch && self.opcode() == 0x5b
+    }
+
+    /// Whether it has an immediate that REGEXTI lengthens.
+    pub fn is_vi(&self) -> bool {
+        self.opcode() == 0x57 && self.name.ends_with(".vi")
+    }
+
+    /// Whether REGEXT may stand before it.
+    pub fn takes_regext(&self) -> bool {
+        !matches!(self.shape, Shape::Control | Shape::Prefix) && !self.is_vbranch()
+    }
+
+    /// The registers that the fields rd, rs1 and rs2 name, and so what the digits xd, x1 and x2
+    /// go on; none where a field is no register.
+    pub fn registers(&self) -> [Option<File>; 3] {
+        const X: Option<File> = Some(File::X);
+        const V: Option<File> = Some(File::V);
+        match (self.opcode(), self.name.as_str()) {
+            (0x37 | 0x17 | 0x6f, _) | (0x73, "csrrwi" | "csrrsi" | "csrrci") => [X, None, None],
+            (0x67 | 0x03 | 0x13 | 0x73, _) | (_, "setrpc") => [X, X, None],
+            (0x63 | 0x23, _) => [None, X, X],
+            (0x33, _) => [X, X, X],
+            (0x7b | 0x2b, name) if name.starts_with("vl") => [V, V, None],
+            (0x7b | 0x2b, _) => [None, V, V],
+            (_, "vmv.x.s") => [X, None, V],
+            (_, "vmv.s.x" | "vmv.vx") => [V, X, None],
+            (_, "vid.v" | "vmv.vi") => [V, None, None],
+            (_, "vmv.vv") => [V, V, None],
+            (0x57, name) if name.ends_with(".vv") => [V, V, V],
+            (0x57, name) if name.ends_with(".vx") => [V, X, V],
+            (0x57, _) => [V, None, V],
+            (0x5b, _) if self.is_vbranch() => [None, V, V],
+            _ => [None; 3],
+        }
+    }
 }
 
 const fn f3(n: u32) -> u32 {
@@ -76,6 +129,7 @@ pub fn variants() -> Vec<Variant> {
         with_immediates(),
         with_registers(),
         system_and_control(),
+        prefixes(),
         lane_integers(),
         lane_moves(),
         lane_products(),
@@ -154,6 +208,11 @@ fn system_and_control() -> Vec<Variant> {
     all.push(Variant::new("endprg", 0x400b, 0, Shape::Control));
     all.push(Variant::new("barrier", BARRIER, RS1, Shape::Control));
     all
+}
+
+fn prefixes() -> Vec<Variant> {
+    let prefix = |name: &str, fixed: u32| Variant::new(name, fixed, RS2 | F7, Shape::Prefix);
+    vec![prefix("regext", REGEXT), prefix("regexti", REGEXTI)]
 }
 
 const VV: u32 = 0;
@@ -251,6 +310,15 @@ pub fn rs2(n: u32) -> u32 {
     n << 20
 }
 
+/// REGEXT with these digits; x3 is 0.
+pub fn regext(x2: u32, x1: u32, xd: u32) -> u32 {
+    REGEXT | (x2 << 6 | x1 << 3 | xd) << 20
+}
+/// REGEXTI with the immediate's upper six bits and these digits.
+pub fn regexti(imm: u32, x2: u32, xd: u32) -> u32 {
+    REGEXTI | (imm << 6 | x2 << 3 | xd) << 20
+}
+
 /// The variants by name.
 pub struct Table {
     pub all: Vec<Variant>,
@@ -292,6 +360,8 @@ pub fn name(insn: &Insn) -> String {
         Insn::SetRpc { .. } => "setrpc".into(),
         Insn::EndPrg => "endprg".into(),
         Insn::Barrier => "barrier".into(),
+        Insn::RegExt(_) => "regext".into(),
+        Insn::RegExtI(_) => "regexti".into(),
         Insn::Vec { op, src, .. } => format!("{}.{}", vop_name(*op), form_name(*src)),
         Insn::VmvSX { .. } => "vmv.s.x".into(),
         Insn::VmvXS { .. } => "vmv.x.s".into(),

@@ -1,97 +1,11 @@
 //! The trace cards, every refusal, and the edges.
 
-use reference::isa::{decode, Insn, VOp, VSrc, ENDPRG, JOIN, V, X};
-use reference::state::{Fixed, Launch, Split, Warp};
+mod common;
+
+use common::*;
+use reference::isa::{decode, Insn, Prefix, VOp, VSrc, ENDPRG, JOIN, V, X};
+use reference::state::{Launch, Split, Warp};
 use reference::{card, code, print, run, saved, table};
-
-const CODE: u32 = 0x8000_0000;
-const DATA: u32 = 0x9000_0000;
-
-fn launch(numt: u32) -> Launch {
-    let mask = if numt == 32 { u32::MAX } else { (1 << numt) - 1 };
-    Launch {
-        fixed: Fixed { numt, numw: 1, mask, code_base: CODE, data_base: DATA, ..Fixed::default() },
-        entry: CODE,
-    }
-}
-
-/// A warp with its lent runs.
-struct Bench {
-    warp: Warp,
-    kernel: Vec<u32>,
-    vector: Vec<u32>,
-    data: Vec<u8>,
-}
-
-impl Bench {
-    fn new(numt: u32, kernel: &[u32], data: usize) -> Bench {
-        Bench::launched(&launch(numt), kernel, data)
-    }
-    fn launched(launch: &Launch, kernel: &[u32], data: usize) -> Bench {
-        let mut vector = vec![7; 1024];
-        let data = vec![0; data];
-        let (code, warp) = run::launch(launch, kernel, &mut vector, &data);
-        assert_eq!(code, 0);
-        assert!(vector.iter().all(|w| *w == 0));
-        Bench { warp, kernel: kernel.to_vec(), vector, data }
-    }
-    fn set_v(&mut self, r: usize, values: &[u32]) {
-        self.vector[r * 32..r * 32 + values.len()].copy_from_slice(values);
-    }
-    fn v(&self, r: usize, lane: usize) -> u32 {
-        self.vector[r * 32 + lane]
-    }
-    fn step(&mut self) -> u32 {
-        run::step(&mut self.warp, &self.kernel, &mut self.vector, &mut self.data)
-    }
-    fn run(&mut self, budget: u32) -> (u32, u32) {
-        run::run(&mut self.warp, &self.kernel, &mut self.vector, &mut self.data, budget)
-    }
-    /// A step that must be refused and must change nothing.
-    fn refused(&mut self, number: u32) {
-        let before = (self.warp.clone(), self.vector.clone(), self.data.clone());
-        assert_eq!(self.step(), number);
-        assert_eq!(before, (self.warp.clone(), self.vector.clone(), self.data.clone()));
-    }
-}
-
-// A very small assembler.
-
-fn variant(name: &str) -> u32 {
-    table::variants().iter().find(|v| v.name == name).unwrap_or_else(|| panic!("{name}")).fixed
-}
-fn r(name: &str, rd: u32, rs1: u32, rs2: u32) -> u32 {
-    variant(name) | rd << 7 | rs1 << 15 | rs2 << 20
-}
-fn i(name: &str, rd: u32, rs1: u32, imm: i32) -> u32 {
-    variant(name) | rd << 7 | rs1 << 15 | (imm as u32 & 0xfff) << 20
-}
-fn s(name: &str, rs1: u32, rs2: u32, imm: i32) -> u32 {
-    let imm = imm as u32;
-    variant(name) | rs1 << 15 | rs2 << 20 | (imm >> 5 & 0x7f) << 25 | (imm & 31) << 7
-}
-fn b(name: &str, rs1: u32, rs2: u32, off: i32) -> u32 {
-    let o = off as u32;
-    variant(name)
-        | rs1 << 15
-        | rs2 << 20
-        | (o >> 12 & 1) << 31
-        | (o >> 5 & 63) << 25
-        | (o >> 1 & 15) << 8
-        | (o >> 11 & 1) << 7
-}
-fn j(rd: u32, off: i32) -> u32 {
-    let o = off as u32;
-    0x6f | rd << 7
-        | (o >> 20 & 1) << 31
-        | (o >> 1 & 0x3ff) << 21
-        | (o >> 11 & 1) << 20
-        | (o >> 12 & 0xff) << 12
-}
-/// vd = op(vs2, src)
-fn v(name: &str, vd: u32, vs2: u32, src: u32) -> u32 {
-    variant(name) | vd << 7 | (src & 31) << 15 | vs2 << 20
-}
 
 #[test]
 fn p1_p2_codes() {
@@ -141,13 +55,7 @@ fn published_codes() {
 #[test]
 fn table_and_decoder_agree() {
     let variants = table::variants();
-    let mut x = 0x1234_5678u32;
-    let mut draw = || {
-        x ^= x << 13;
-        x ^= x >> 17;
-        x ^= x << 5;
-        x
-    };
+    let mut draw = any_words(0x1234_5678);
     let matching = |w: u32| {
         let mut m = variants.iter().filter(|v| w & !v.free == v.fixed);
         let first = m.next().map(|v| v.name.clone());
@@ -176,7 +84,7 @@ fn table_and_decoder_agree() {
 fn decoder_counts_all_words() {
     let by_table: u64 = table::variants().iter().map(|v| 1u64 << v.free.count_ones()).sum();
     let by_decoder = (0..=u32::MAX).filter(|w| decode(*w).is_some()).count() as u64;
-    assert_eq!(by_table, by_decoder);
+    assert_eq!((by_table, by_decoder), (300_758_082, 300_758_082));
 }
 
 #[test]
@@ -997,19 +905,22 @@ fn try_launch(l: &Launch, kernel: usize, vector: usize, data: usize) -> u32 {
     code
 }
 
+const VECTOR: usize = 8_192;
+
 #[test]
 fn run_sizes() {
     let l = launch(4);
-    assert_eq!(try_launch(&l, 1, 1024, 0), 0);
-    assert_eq!(try_launch(&l, 16_384, 1024, 65_536), 0);
+    assert_eq!(try_launch(&l, 1, VECTOR, 0), 0);
+    assert_eq!(try_launch(&l, 16_384, VECTOR, 65_536), 0);
     for (kernel, vector, data) in [
-        (0, 1024, 0),
-        (16_385, 1024, 0),
-        (1, 1023, 0),
-        (1, 1025, 0),
-        (1, 1056, 0),
+        (0, VECTOR, 0),
+        (16_385, VECTOR, 0),
+        (1, 8191, 0),
+        (1, 8193, 0),
+        (1, 8224, 0),
+        (1, 1024, 0),
         (1, 0, 0),
-        (1, 1024, 65_537),
+        (1, VECTOR, 65_537),
     ] {
         assert_eq!(try_launch(&l, kernel, vector, data), 1);
     }
@@ -1019,12 +930,12 @@ fn run_sizes() {
 fn runs_at_the_end_of_the_space() {
     let mut l = launch(4);
     l.fixed.code_base = 0xffff_fff8;
-    assert_eq!(try_launch(&l, 2, 1024, 0), 0);
-    assert_eq!(try_launch(&l, 3, 1024, 0), 1);
+    assert_eq!(try_launch(&l, 2, VECTOR, 0), 0);
+    assert_eq!(try_launch(&l, 3, VECTOR, 0), 1);
     let mut l = launch(4);
     l.fixed.data_base = 0xffff_ffff;
-    assert_eq!(try_launch(&l, 1, 1024, 1), 0);
-    assert_eq!(try_launch(&l, 1, 1024, 2), 1);
+    assert_eq!(try_launch(&l, 1, VECTOR, 1), 0);
+    assert_eq!(try_launch(&l, 1, VECTOR, 2), 1);
 }
 
 #[test]
@@ -1043,7 +954,7 @@ fn launch_values_out_of_range() {
     for change in bad {
         let mut l = launch(4);
         change(&mut l);
-        assert_eq!(try_launch(&l, 1, 1024, 0), 1);
+        assert_eq!(try_launch(&l, 1, VECTOR, 0), 1);
         assert_eq!(code(card::write(&l, &mut [0; 50])), 1);
     }
 }
@@ -1064,7 +975,7 @@ fn well_formed_states() {
     assert!(Warp::launched(&launch(8)).well_formed());
     assert!(split_state().well_formed());
     assert!(!Warp::default().well_formed());
-    let bad: [&dyn Fn(&mut Warp); 26] = [
+    let bad: [&dyn Fn(&mut Warp); 29] = [
         &|w| w.fixed.numt = 0,
         &|w| w.fixed.numt = 33,
         &|w| w.fixed.numt = 7,
@@ -1091,13 +1002,16 @@ fn well_formed_states() {
         &|w| w.splits[0].phase_two = false,
         &|w| w.splits[1].phase_two = true,
         &|w| w.mask = 0xf0,
+        &|w| w.prefix = Prefix::RegExt(4096),
+        &|w| w.prefix = Prefix::RegExtI(4096),
+        &|w| w.prefix = Prefix::RegExt(u32::MAX),
     ];
     for (n, change) in bad.iter().enumerate() {
         let mut warp = split_state();
         change(&mut warp);
         assert!(!warp.well_formed(), "{n}");
         let before = warp.clone();
-        let mut vector = vec![0; 1024];
+        let mut vector = vec![0; run::VECTOR_WORDS];
         assert_eq!(run::run(&mut warp, &[0x13], &mut vector, &mut [], 0), (2, 0));
         assert_eq!(run::run(&mut warp, &[0x13], &mut vector, &mut [], 5), (2, 0));
         assert_eq!(run::run(&mut warp, &[], &mut vector, &mut [], 5), (1, 0));
@@ -1156,15 +1070,16 @@ fn cards() {
 #[test]
 fn saved_states() {
     let mut warp = split_state();
-    warp.x[31] = 7;
+    (warp.x[31], warp.x[63]) = (7, 8);
     (warp.rpc, warp.print) = (11, 12);
+    warp.prefix = Prefix::RegExtI(0xabc);
     let words = saved::to_words(&warp);
     assert_eq!(saved::from_words(&words), Ok(warp));
-    assert_eq!(words[31], 7);
-    assert_eq!(words[32..37], [3, 0xff, 0xf0, CODE, 1]);
-    assert_eq!(words[187..194], [2, CODE, 0xc0, 11, 12, 0, 0]);
-    assert_eq!(words[194..200], [8, 1, 0, 0xff, CODE, DATA]);
-    let mut vector = vec![0; 1024];
+    assert_eq!((words[31], words[63]), (7, 8));
+    assert_eq!(words[64..69], [3, 0xff, 0xf0, CODE, 1]);
+    assert_eq!(words[219..228], [2, CODE, 0xc0, 11, 12, 0, 0, 2, 0xabc]);
+    assert_eq!(words[228..234], [8, 1, 0, 0xff, CODE, DATA]);
+    let mut vector = vec![0; run::VECTOR_WORDS];
     let mut number = |words: &[u32], kernel: &[u32]| {
         let mut state = words.to_vec();
         let answer = saved::run(&mut state, kernel, &mut vector, &mut [], 0);
@@ -1173,17 +1088,20 @@ fn saved_states() {
     };
     let nop = [0x13];
     assert_eq!(number(&words, &nop), (0, 0));
-    assert_eq!(number(&words[..206], &nop), (1, 0));
+    assert_eq!(number(&words[..240], &nop), (1, 0));
     assert_eq!(number(&[&words[..], &[0]].concat(), &nop), (1, 0));
     for (at, value) in [
-        (36, 2),
-        (41, 7),
-        (186, 2),
-        (187, 32),
-        (187, u32::MAX),
-        (192, 2),
-        (193, 3),
-        (198, CODE + 1),
+        (68, 2),
+        (73, 7),
+        (218, 2),
+        (219, 32),
+        (219, u32::MAX),
+        (224, 2),
+        (225, 3),
+        (226, 0), // bits without a kind
+        (226, 3),
+        (227, 4096),
+        (232, CODE + 1),
     ] {
         let mut bad = words;
         bad[at] = value;
@@ -1193,9 +1111,9 @@ fn saved_states() {
     }
     let mut waiting = saved::to_words(&Warp { waiting: true, ..Warp::launched(&launch(2)) });
     assert_eq!(saved::release(&mut waiting), 0);
-    assert_eq!(waiting[193], 0);
+    assert_eq!(waiting[225], 0);
     assert_eq!(saved::release(&mut waiting), 12);
-    assert_eq!(saved::release(&mut [0; 206]), 1);
+    assert_eq!(saved::release(&mut [0; 240]), 1);
 }
 
 #[test]

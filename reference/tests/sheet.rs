@@ -6,8 +6,8 @@ use reference::sheet::{
     self, bench_mark, bench_sheet, sheet_of, steps_of, Mark, SHEET_BYTES, STEPS, STEP_BYTES,
 };
 use reference::state::{Fixed, Launch};
-use reference::table::{enc_b, enc_i, enc_s, rd, rs1, rs2, Table, NOP};
-use reference::Refusal;
+use reference::table::{enc_b, enc_i, enc_s, rd, regext, rs1, rs2, Table, NOP};
+use reference::{run, Refusal};
 
 const CODE: u32 = 0x8000_0000;
 const DATA: u32 = 0x1000_0000;
@@ -87,7 +87,7 @@ impl Desk {
         Desk {
             card: card_of(&launch()),
             kernel: kernel.to_vec(),
-            vector: vec![WORD_BEFORE; 1024],
+            vector: vec![WORD_BEFORE; run::VECTOR_WORDS],
             data: vec![BEFORE; 64],
             target: vec![BEFORE; SHEET_BYTES + 7],
             result: vec![WORD_BEFORE; 2],
@@ -118,7 +118,7 @@ impl Desk {
     }
     /// As a launch that takes no step leaves it.
     fn launched(&self) -> Desk {
-        Desk { vector: vec![0; 1024], ..self.clone() }
+        Desk { vector: vec![0; run::VECTOR_WORDS], ..self.clone() }
     }
 }
 
@@ -152,6 +152,26 @@ fn sizes_are_the_rules() {
 fn a_sheet_by_hand_is_the_runs_own() {
     assert_eq!(own_sheet(&split_kernel()), split_sheet());
     assert_eq!(marked(&split_kernel(), &split_sheet()), Ok(Mark::Full));
+}
+
+/// A prefix has a line of its own, and a word behind one that is refused has none.
+#[test]
+fn prefixes_are_steps_of_a_sheet() {
+    let kernel = [regext(0, 0, 3), Table::whole().fixed("vid.v") | rd(4), regext(0, 0, 0), JOIN];
+    let mut lines = Vec::new();
+    for (n, word) in (0..).zip(&kernel[..3]) {
+        for field in [CODE + 4 * n, *word, 0xf] {
+            lines.extend(field.to_be_bytes());
+        }
+        lines.push(0);
+    }
+    assert_eq!(own_sheet(&kernel), sheet_of(&lines));
+    assert_eq!(marked(&kernel, &sheet_of(&lines)), Ok(Mark::Full));
+    assert_eq!(
+        marked(&kernel, &sheet_of(&lines[..13])),
+        Ok(Mark::Short { on_sheet: 1, in_run: 3 })
+    );
+    assert_eq!(marked(&[regext(0, 0, 0) | rd(1)], &sheet_of(&[])), Err(17));
 }
 
 #[test]

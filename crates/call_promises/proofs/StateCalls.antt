@@ -1,4 +1,4 @@
--- What a C host is promised of the calls on a state of 207 words.
+-- What a C host is promised of the calls on a state of 241 words.
 use Prim.Native.Nat.{ℕ}
 use mathlib.Core.Path.{_≡_, refl, sym, _∙_, ap, subst}
 use mathlib.Core.Bool.{Bool, true, false, not, cond}

@@ -1,4 +1,4 @@
--- What a C host is promised of the calls on a state of 207 words. What a call leaves (`Called`, `RunCalled`, `Saving`) is all that its caller sees.
+-- What a C host is promised of the calls on a state of 241 words. What a call leaves (`Called`, `RunCalled`, `Saving`) is all that its caller sees.
 use Prim.Native.Nat.{ℕ}
 use mathlib.Core.Path.{_≡_}
 use mathlib.Core.Bool.{true}
@@ -39,7 +39,7 @@ DecodeCallAnswers = (w : ℕ) → oneOf (0 ∷ 6 ∷ []) (decodeCallOf w) ≡ tr
 
 -- ---- what a refusal leaves
 
--- A refused launch leaves a state of 207 words all zeros, one of another length as it was, and vector file and data as lent.
+-- A refused launch leaves a state of 241 words all zeros, one of another length as it was, and vector file and data as lent.
 abbrev pub LaunchCallKeeps : Type 0
 LaunchCallKeeps = (c k v d s : List ℕ) → (launchCallOf c k v d s .number ≡ 0 → ⊥) → launchCallOf c k v d s ≡ called (launchCallOf c k v d s .number) (blankOf s) v d
 

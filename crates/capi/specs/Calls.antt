@@ -1,4 +1,4 @@
--- The calls for C and Rust: a warp is lent as a state of 207 words.
+-- The calls for C and Rust: a warp is lent as a state of 241 words.
 use Prim.Native.Nat.{ℕ}
 use mathlib.Core.Bool.{Bool, not, cond}
 use mathlib.Core.List.{List, [], _∷_}
@@ -34,7 +34,7 @@ unlessCalled n o s v d = cond (eqb n 0) (leaving o) (called n s v d)
 
 -- ---- launch, from a card c
 
--- a refused launch leaves a state of 207 words all zeros, and one of another length as it was
+-- a refused launch leaves a state of 241 words all zeros, and one of another length as it was
 abbrev pub blankOf : List ℕ → List ℕ
 blankOf s = cond (isState s) (replicate stateWords 0) s
 

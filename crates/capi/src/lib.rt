@@ -1,4 +1,4 @@
-// The machine's calls for C and Rust, over numbers and slices: a warp is a state of 207 words.
+// The machine's calls for C and Rust, over numbers and slices: a warp is a state of 241 words.
 use drive::Drove;
 use layout::FIXED;
 use layout::FLAT;

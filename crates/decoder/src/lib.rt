@@ -6,10 +6,11 @@ ghost use mathlib.Core.List.{[], _∷_};
 ghost use Prim.Native.Nat.{ℕ, _%_, _^_};
 ghost use Rattle.answer.specs.Rows.{_⇒_};
 ghost use Rattle.isa.specs.declared.Instr.the-variants.{Refused};
-ghost use Rattle.isa.specs.Fields.{fieldsOf};
+ghost use Rattle.isa.specs.declared.Instr.{Instr};
+ghost use Rattle.isa.specs.Fields.{fieldsOf, immI};
 ghost use Rattle.isa.specs.Table.{seek, fixed as fixedTo};
 ghost use Rattle.isa.specs.Scalar.{jalrWord, branchWord, loadWord, storeWord, leftShifts, rightShifts, shiftWord, opImmWord, opWord, fenceWord, csrWord};
-ghost use Rattle.isa.specs.Ventus.{joinWord, splitsWord, endPrgWord, barrierWord, stopWord, laneAccessWord, privateWord};
+ghost use Rattle.isa.specs.Ventus.{joinWord, splitsWord, endPrgWord, barrierWord, stopWord, prefixWord, warpWord, laneAccessWord, privateWord};
 ghost use Rattle.isa.specs.Decode.{decodeOf};
 ghost use Rattle.isa.specs.Kinds.{instrOf};
 use isa::kinds;
@@ -61,14 +62,14 @@ fn store(w: u32) -> u32
 fn left_shift(w: u32) -> u32
     ensures { λ r. ⌜ instrOf r w ≡ shiftWord leftShifts (fieldsOf w) ⌝ }
 {
-    let funct7 = w / 33554432;
+    let funct7 = w / 33554432 % 128;
     fixed(funct7, 0b0000000, kinds::SLLI)
 }
 
 fn right_shift(w: u32) -> u32
     ensures { λ r. ⌜ instrOf r w ≡ shiftWord rightShifts (fieldsOf w) ⌝ }
 {
-    let funct7 = w / 33554432;
+    let funct7 = w / 33554432 % 128;
     match funct7 {
         0b0000000 => kinds::SRLI,
         0b0100000 => kinds::SRAI,
@@ -108,7 +109,7 @@ fn op(w: u32) -> u32
     ensures { λ r. ⌜ instrOf r w ≡ opWord (fieldsOf w) ⌝ }
 {
     let funct3 = w / 4096 % 8;
-    let funct7 = w / 33554432;
+    let funct7 = w / 33554432 % 128;
     match funct3 {
         0b000 => by_funct7(funct7, kinds::ADD, kinds::MUL, kinds::SUB),
         0b001 => by_funct7(funct7, kinds::SLL, kinds::MULH, kinds::NONE),
@@ -142,7 +143,7 @@ fn csr(w: u32) -> u32
 fn join(w: u32) -> u32
     ensures { λ r. ⌜ instrOf r w ≡ joinWord (fieldsOf w) ⌝ }
 {
-    let rest = w / 33554432 + w / 1048576 % 32 + w / 32768 % 32 + w / 128 % 32;
+    let rest = w / 33554432 % 128 + w / 1048576 % 32 + w / 32768 % 32 + w / 128 % 32;
     fixed(rest, 0, kinds::JOIN)
 }
 
@@ -175,14 +176,30 @@ fn barrier(w: u32) -> u32
 fn stop(w: u32) -> u32
     ensures { λ r. ⌜ instrOf r w ≡ stopWord (fieldsOf w) ⌝ }
 {
-    let funct3 = w / 4096 % 8;
-    let funct7 = w / 33554432;
-    if funct3 != 0b100 {
-        return kinds::NONE;
-    }
+    let funct7 = w / 33554432 % 128;
     match funct7 {
         0b0000000 => end_prg(w),
         0b0000010 => barrier(w),
+        _ => kinds::NONE,
+    }
+}
+
+// REGEXT or REGEXTI.
+fn prefix(w: u32, kind: u32) -> u32
+    ensures { λ r. ⌜ ((make : ℕ → Instr) → instrOf kind w ≡ make (immI (fieldsOf w)) → instrOf r w ≡ prefixWord make (fieldsOf w)) ⌝ }
+{
+    let rest = w / 32768 % 32 + w / 128 % 32;
+    fixed(rest, 0, kind)
+}
+
+fn warp_word(w: u32) -> u32
+    ensures { λ r. ⌜ instrOf r w ≡ warpWord (fieldsOf w) ⌝ }
+{
+    let funct3 = w / 4096 % 8;
+    match funct3 {
+        0b100 => stop(w),
+        0b010 => prefix(w, kinds::REGEXT),
+        0b011 => prefix(w, kinds::REGEXTI),
         _ => kinds::NONE,
     }
 }
@@ -203,7 +220,7 @@ fn private(w: u32) -> u32
     ensures { λ r. ⌜ instrOf r w ≡ privateWord (fieldsOf w) ⌝ }
 {
     let funct3 = w / 4096 % 8;
-    if w / 33554432 / 64 != 0 {
+    if w / 33554432 % 128 / 64 != 0 {
         return kinds::NONE;
     }
     match funct3 {
@@ -232,7 +249,7 @@ fn other(w: u32) -> u32
         0b1110011 => csr(w),
         0b1010111 => vector::vector(w),
         0b1011011 => splits(w),
-        0b0001011 => stop(w),
+        0b0001011 => warp_word(w),
         0b1111011 => lane_access(w),
         0b0101011 => private(w),
         _ => kinds::NONE,

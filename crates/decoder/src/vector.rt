@@ -61,7 +61,7 @@ fn plain_vv(w: u32) -> u32
     requires { ⌜ fieldsOf w .funct3 ≡ 0b000 ⌝ }
     ensures { λ r. ⌜ instrOf r w ≡ plainWord (fromV (fieldsOf w)) (fieldsOf w) ⌝ }
 {
-    let funct6 = w / 33554432 / 2;
+    let funct6 = w / 33554432 % 128 / 2;
     match funct6 {
         0b010111 => fixed(w / 1048576 % 32, 0, kinds::VMOVE),
         0b000011 => kinds::NONE,
@@ -75,7 +75,7 @@ fn plain_vx(w: u32) -> u32
     requires { ⌜ fieldsOf w .funct3 ≡ 0b100 ⌝ }
     ensures { λ r. ⌜ instrOf r w ≡ plainWord (fromX (fieldsOf w)) (fieldsOf w) ⌝ }
 {
-    let funct6 = w / 33554432 / 2;
+    let funct6 = w / 33554432 % 128 / 2;
     match funct6 {
         0b010111 => fixed(w / 1048576 % 32, 0, kinds::VMOVE),
         _ => row(funct6),
@@ -87,7 +87,7 @@ fn plain_vi(w: u32) -> u32
     requires { ⌜ fieldsOf w .funct3 ≡ 0b011 ⌝ }
     ensures { λ r. ⌜ instrOf r w ≡ plainWord (fromI (fieldsOf w)) (fieldsOf w) ⌝ }
 {
-    let funct6 = w / 33554432 / 2;
+    let funct6 = w / 33554432 % 128 / 2;
     match funct6 {
         0b010111 => fixed(w / 1048576 % 32, 0, kinds::VMOVE),
         0b000010 => kinds::NONE,
@@ -100,7 +100,7 @@ fn multiply_vv(w: u32) -> u32
     requires { ⌜ fieldsOf w .funct3 ≡ 0b010 ⌝ }
     ensures { λ r. ⌜ instrOf r w ≡ multiplyWord (fromV (fieldsOf w)) (fieldsOf w) ⌝ }
 {
-    let funct6 = w / 33554432 / 2;
+    let funct6 = w / 33554432 % 128 / 2;
     match funct6 {
         0b010000 => fixed(w / 32768 % 32, 0, kinds::VMOVE_XS),
         0b010100 => fixed(
@@ -116,7 +116,7 @@ fn multiply_vx(w: u32) -> u32
     requires { ⌜ fieldsOf w .funct3 ≡ 0b110 ⌝ }
     ensures { λ r. ⌜ instrOf r w ≡ multiplyWord (fromX (fieldsOf w)) (fieldsOf w) ⌝ }
 {
-    let funct6 = w / 33554432 / 2;
+    let funct6 = w / 33554432 % 128 / 2;
     match funct6 {
         0b010000 => fixed(w / 1048576 % 32, 0, kinds::VMOVE_SX),
         _ => multiply_row(funct6),
@@ -141,7 +141,7 @@ fn operands(w: u32) -> u32
 pub fn vector(w: u32) -> u32
     ensures { λ r. ⌜ instrOf r w ≡ vectorWord (fieldsOf w) ⌝ }
 {
-    let vm = w / 33554432 % 2;
+    let vm = w / 33554432 % 128 % 2;
     match vm {
         1 => operands(w),
         _ => kinds::NONE,

@@ -3,11 +3,12 @@ use Rattle.isa.specs.Decode.{decodeOf}
 use Rattle.isa.specs.Scalar as Scalar
 use Rattle.isa.specs.Vector as Vector
 use Rattle.isa.specs.Ventus as Ventus
+use Rattle.isa.specs.Prefix.{prefixed}
 use Rattle.lanes.specs.Mask.{bitAt}
 use Rattle.lanes.specs.Lanes.{eachLane, allLanes}
 use Rattle.memory.specs.Bytes.{leBytes}
 use Rattle.warp.specs.Warp.{zeroWarp}
-use Rattle.warp.specs.WellFormed.{fixedOkOf, splitOkOf, chainOf, allZero, wellFormedOf}
+use Rattle.warp.specs.WellFormed.{fixedOkOf, splitOkOf, chainOf, allZero, prefixOkOf, wellFormedOf}
 use Rattle.warp.specs.Splits.{openOf, parted, joinOf, setRpcOf}
 use Rattle.warp.specs.Csr.{csrAt, csrDone}
 use Rattle.definition.specs.Refuse.{runsOkOf, refusalsOf}
@@ -16,9 +17,9 @@ use Rattle.definition.specs.Step.{stepOf}
 use Rattle.definition.specs.Calls.{launchOf, stepsOf, runOf, releaseOf}
 
 unfoldable pub computed-words : Type 0
-unfolding decodeOf Scalar.jalrWord Scalar.branchWord Scalar.loadWord Scalar.storeWord Scalar.shiftWord Scalar.opImmWord Scalar.byFunct3 Scalar.opWord Scalar.fenceWord Scalar.csrWord Vector.plainWord Vector.multiplyWord Vector.operandsWord Vector.vectorWord Ventus.joinWord Ventus.splitsWord Ventus.endPrgWord Ventus.barrierWord Ventus.stopWord Ventus.laneAccessWord Ventus.privateWord
+unfolding decodeOf Scalar.jalrWord Scalar.branchWord Scalar.loadWord Scalar.storeWord Scalar.shiftWord Scalar.opImmWord Scalar.byFunct3 Scalar.opWord Scalar.fenceWord Scalar.csrWord Vector.plainWord Vector.multiplyWord Vector.operandsWord Vector.vectorWord Ventus.joinWord Ventus.splitsWord Ventus.endPrgWord Ventus.barrierWord Ventus.stopWord Ventus.prefixWord Ventus.warpWord Ventus.laneAccessWord Ventus.privateWord
 computed-words = Unit {0}
 
 unfoldable pub computes : Type 0
-unfolding computed-words bitAt eachLane allLanes leBytes zeroWarp fixedOkOf splitOkOf chainOf allZero wellFormedOf openOf parted joinOf setRpcOf csrAt csrDone runsOkOf refusalsOf effectOf stepOf launchOf stepsOf runOf releaseOf
+unfolding computed-words prefixed prefixOkOf bitAt eachLane allLanes leBytes zeroWarp fixedOkOf splitOkOf chainOf allZero wellFormedOf openOf parted joinOf setRpcOf csrAt csrDone runsOkOf refusalsOf effectOf stepOf launchOf stepsOf runOf releaseOf
 computes = Unit {0}

@@ -1,4 +1,4 @@
--- The code sign-extends a vector operation's immediate whatever the operation: of a shift that gives the same, since it looks at the low five bits only, and they are the field.
+-- The code sign-extends a vector operation's immediate whatever the operation: of a shift that gives the same, since it looks at the low five bits only.
 use Prim.Native.Nat.{ℕ, _+_, _-_, _%_, _^_}
 use mathlib.Core.Path.{_≡_, refl, fun-ext}
 use mathlib.Core.Bool.{Bool, true, false, cond}
@@ -16,46 +16,57 @@ use Rattle.lanes.specs.Lanes.{laneOf, opLane}
 use Rattle.definition.specs.State.{State}
 use Rattle.definition.specs.Exec.{immediateOf, sourceOf}
 
--- the low five bits of the extended field are the field's
-low-five : (i : ℕ) → extendOf 5 i % 32 ≡ i % 32
+-- sign extension of n bits, five or more of them, leaves the low five as they are
+abbrev LowFive : ℕ → ℕ → Type 0
+LowFive n i = extendOf n i % 32 ≡ i % 2 ^ 5 % 32
+
+low-five : (i : ℕ) → LowFive 5 i
 low-five i = go (ltb i (2 ^ 4))
   where
-    go : (t : Bool) → cond t i (i + 2 ^ 32 - 2 ^ 5) % 32 ≡ i % 32
-    go true = refl
+    go : (t : Bool) → cond t i (i + 2 ^ 32 - 2 ^ 5) % 32 ≡ i % 2 ^ 5 % 32
+    go true = omega arith
     go false = omega arith
 
-pub shift-immediate : (o : Op) (a i : ℕ) → applyOf o a (extendOf 5 i) ≡ applyOf o a (immediateOf o i)
-shift-immediate Add a i = refl
-shift-immediate Sub a i = refl
-shift-immediate Rsub a i = refl
-shift-immediate Sll a i = rw (low-five i)
-shift-immediate Srl a i = rw (low-five i)
-shift-immediate Sra a i = rw (low-five i)
-shift-immediate Slt a i = refl
-shift-immediate Sltu a i = refl
-shift-immediate And a i = refl
-shift-immediate Or a i = refl
-shift-immediate Xor a i = refl
-shift-immediate Mul a i = refl
-shift-immediate Mulh a i = refl
-shift-immediate Mulhsu a i = refl
-shift-immediate Mulhu a i = refl
-shift-immediate Div a i = refl
-shift-immediate Divu a i = refl
-shift-immediate Rem a i = refl
-shift-immediate Remu a i = refl
-shift-immediate Min a i = refl
-shift-immediate Minu a i = refl
-shift-immediate Max a i = refl
-shift-immediate Maxu a i = refl
-shift-immediate Seq a i = refl
-shift-immediate Sne a i = refl
-shift-immediate Sle a i = refl
-shift-immediate Sleu a i = refl
-shift-immediate Sgt a i = refl
-shift-immediate Sgtu a i = refl
+low-eleven : (i : ℕ) → LowFive 11 i
+low-eleven i = go (ltb i (2 ^ 10))
+  where
+    go : (t : Bool) → cond t i (i + 2 ^ 32 - 2 ^ 11) % 32 ≡ i % 2 ^ 5 % 32
+    go true = omega arith
+    go false = omega arith
 
-pub shift-operand : (o : Op) (v : List ℕ) (a : VReg) (s : Source) (m : State) → opLane o v a (sourceOf (extendOf 5) s m) ≡ opLane o v a (sourceOf (immediateOf o) s m)
+pub shift-immediate : (n i : ℕ) → LowFive n i → (o : Op) (a : ℕ) → applyOf o a (extendOf n i) ≡ applyOf o a (immediateOf o n i)
+shift-immediate n i l Add a = refl
+shift-immediate n i l Sub a = refl
+shift-immediate n i l Rsub a = refl
+shift-immediate n i l Sll a = rw l
+shift-immediate n i l Srl a = rw l
+shift-immediate n i l Sra a = rw l
+shift-immediate n i l Slt a = refl
+shift-immediate n i l Sltu a = refl
+shift-immediate n i l And a = refl
+shift-immediate n i l Or a = refl
+shift-immediate n i l Xor a = refl
+shift-immediate n i l Mul a = refl
+shift-immediate n i l Mulh a = refl
+shift-immediate n i l Mulhsu a = refl
+shift-immediate n i l Mulhu a = refl
+shift-immediate n i l Div a = refl
+shift-immediate n i l Divu a = refl
+shift-immediate n i l Rem a = refl
+shift-immediate n i l Remu a = refl
+shift-immediate n i l Min a = refl
+shift-immediate n i l Minu a = refl
+shift-immediate n i l Max a = refl
+shift-immediate n i l Maxu a = refl
+shift-immediate n i l Seq a = refl
+shift-immediate n i l Sne a = refl
+shift-immediate n i l Sle a = refl
+shift-immediate n i l Sleu a = refl
+shift-immediate n i l Sgt a = refl
+shift-immediate n i l Sgtu a = refl
+
+pub shift-operand : (o : Op) (v : List ℕ) (a : VReg) (s : Source) (m : State) → opLane o v a (sourceOf extendOf s m) ≡ opLane o v a (sourceOf (immediateOf o) s m)
 shift-operand o v a (From.V r) m = refl
 shift-operand o v a (From.X r) m = refl
-shift-operand o v a (From.I i) m = fun-ext (λ (l : Lane). shift-immediate o (laneOf v a l) i)
+shift-operand o v a (From.I i) m = fun-ext (λ (l : Lane). shift-immediate 5 i (low-five i) o (laneOf v a l))
+shift-operand o v a (From.Long i) m = fun-ext (λ (l : Lane). shift-immediate 11 i (low-eleven i) o (laneOf v a l))

@@ -65,6 +65,8 @@ module _ (m : State) where
   lies I.EndPrg h = tt
   lies (I.Barrier n) h = tt
   lies (I.VLoad s k r a n) h = tt
+  lies (I.RegExt n) h = tt
+  lies (I.RegExtI n) h = tt
   lies (I.VStore s k a b n) h = each (widthOf k) (laneAt s a n m) (passed (14 ⇒ someCrosses s (widthOf k) a n m ∷ []) [] 9 (allFit (widthOf k) (laneAt s a n m)) refl h)
 
 -- A taken step overwrites bytes of the data memory alone.

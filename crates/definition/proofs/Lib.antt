@@ -7,3 +7,4 @@ pub mod Sound
 pub mod Stored
 pub mod Target
 pub mod Tests
+pub mod Used

@@ -1,4 +1,4 @@
--- What an instruction may overwrite besides the words that every instruction may (PC, mask, depth, RPC, PRINT, ended, waiting): one place, named here.
+-- What an instruction may overwrite besides the words that every instruction may (PC, mask, depth, RPC, PRINT, ended, waiting, the pending prefix): one place, named here.
 use Prim.Native.Nat.{ℕ, _+_, _-_, _≤_, _<_}
 use mathlib.Core.Path.{_≡_, refl, _∙_, ap}
 use mathlib.Core.Bool.{Bool, true}
@@ -7,7 +7,6 @@ use native.Mathlib.Omega.{arith}
 use lib.Dec.{eqb, lit≤}
 use lib.ListN.{length, getD, set, length-set}
 use lib.Seq.{getD-set-other}
-use Rattle.answer.specs.Rows.{first}
 use Rattle.word.specs.Word.{holdsOf}
 use Rattle.isa.specs.declared.Instr.{Instr}
 use Rattle.isa.specs.declared.Instr.the-variants as I
@@ -29,10 +28,8 @@ use Rattle.warp.specs.Warp.{zeroSplit, setX, writeX, next}
 use Rattle.warp.specs.Splits.{openOf, parted, lastSplit, joinOf, setRpcOf}
 use Rattle.warp.proofs.SplitLaws.{by-cond}
 use Rattle.warp.specs.Csr.{isPrint, writesOf, csrAt, csrDone}
-use Rattle.definition.specs.State.{State, fixedOf, active, xOf, memoryOf, scalarAt, laneAt, instrAt}
-use Rattle.definition.specs.Refuse.{testsOf}
+use Rattle.definition.specs.State.{State, fixedOf, active, xOf, memoryOf, scalarAt, laneAt}
 use Rattle.definition.specs.Exec.{goes, writes, stores, effect, effectOf}
-use Rattle.definition.specs.Step.{stepOf}
 
 -- nothing; a scalar register; a split record; a register's words in the lanes that `on` picks; of each lane l below n that `on` picks, `width` bytes from `place l` on
 pub data Target : Type 0 where
@@ -68,8 +65,10 @@ targetOf I.EndPrg m = nothing
 targetOf (I.Barrier n) m = nothing
 targetOf (I.VLoad s k r a n) m = lanes (active m) r
 targetOf (I.VStore s k a b n) m = bytes (fixedOf m .numt) (active m) (widthOf k) (λ l. indexIn (memoryOf m) (laneAt s a n m l))
+targetOf (I.RegExt n) m = nothing
+targetOf (I.RegExtI n) m = nothing
 
--- the target spares scalar register i, split record i, word i of the vector file, byte i of the data
+-- the target spares scalar register i, split record i, word i of the vector file (of n lanes), byte i of the data
 abbrev pub SparesX : Target → ℕ → Type 0
 SparesX (scalar r) i = i ≡ r .0 → ⊥
 SparesX nothing i = Unit {0}
@@ -84,12 +83,12 @@ SparesSplit (scalar r) i = Unit {0}
 SparesSplit (lanes on r) i = Unit {0}
 SparesSplit (bytes n on width place) i = Unit {0}
 
-abbrev pub SparesWord : State → Target → ℕ → Type 0
-SparesWord m (lanes on r) i = (l : Lane) → l .0 < fixedOf m .numt → on l ≡ true → i ≡ slotOf r l → ⊥
-SparesWord m nothing i = Unit {0}
-SparesWord m (scalar r) i = Unit {0}
-SparesWord m (split j) i = Unit {0}
-SparesWord m (bytes n on width place) i = Unit {0}
+abbrev pub SparesWord : ℕ → Target → ℕ → Type 0
+SparesWord n (lanes on r) i = (l : Lane) → l .0 < n → on l ≡ true → i ≡ slotOf r l → ⊥
+SparesWord n nothing i = Unit {0}
+SparesWord n (scalar r) i = Unit {0}
+SparesWord n (split j) i = Unit {0}
+SparesWord n (bytes k on width place) i = Unit {0}
 
 abbrev pub SparesByte : Target → ℕ → Type 0
 SparesByte (bytes n on width place) i = (l : Lane) → l .0 < n → on l ≡ true → place l ≤ i → i < place l + width → ⊥
@@ -102,7 +101,7 @@ SparesByte (lanes on r) i = Unit {0}
 pub record Within (m : State) (t : Target) (n : State) : Type 0 where
   pub x : (i : ℕ) → SparesX t i → getD (n .warp .x) i 0 ≡ getD (m .warp .x) i 0
   pub splits : (i : ℕ) → SparesSplit t i → getD (n .warp .splits) i zeroSplit ≡ getD (m .warp .splits) i zeroSplit
-  pub vector : (i : ℕ) → SparesWord m t i → getD (n .vector) i 0 ≡ getD (m .vector) i 0
+  pub vector : (i : ℕ) → SparesWord (fixedOf m .numt) t i → getD (n .vector) i 0 ≡ getD (m .vector) i 0
   pub memory : (i : ℕ) → SparesByte t i → getD (n .bytes) i 0 ≡ getD (m .bytes) i 0
   pub fixed : n .warp .fixed ≡ m .warp .fixed
   pub scalars : length (n .warp .x) ≡ length (m .warp .x)
@@ -243,14 +242,11 @@ module _ (m : State) where
   within (I.Barrier n) = leaves _ _ refl refl refl
   within (I.VLoad s k r a n) = fills (active m) r _
   within (I.VStore s k a b n) = lane-stored (active m) k _ _
+  within (I.RegExt n) = leaves _ _ refl refl refl
+  within (I.RegExtI n) = leaves _ _ refl refl refl
 
-  same : (t : Target) → Within m t m
+  pub same : (t : Target) → Within m t m
   same t = leaves t (m .warp) refl refl refl
-
--- A step, refused or not, changes nothing outside the target of the instruction at the PC.
-pub step-within : (k : List ℕ) (m : State) → Within m (targetOf (instrAt k m) m) (stepOf k m .left)
-unfolding stepOf
-step-within k m = by-cond (Within m (targetOf (instrAt k m) m)) (eqb (first (testsOf k m)) 0) _ _ (λ z. within m (instrAt k m)) (λ z. same m _)
 
 -- ---- how much that is
 
@@ -294,3 +290,5 @@ target-small m h I.EndPrg = tt
 target-small m h (I.Barrier n) = tt
 target-small m h (I.VLoad s k r a n) = tt
 target-small m h (I.VStore s k a b n) = (h, four k)
+target-small m h (I.RegExt n) = tt
+target-small m h (I.RegExtI n) = tt

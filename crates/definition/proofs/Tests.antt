@@ -1,10 +1,10 @@
 -- The refusal table of a step: which row answers, what a refusal leaves, and a step test by test.
 use Prim.Native.Nat.{ℕ, _≤_}
 use mathlib.Core.Path.{_≡_, refl, sym, subst}
-use mathlib.Core.Bool.{Bool, true, false, not, _&&_, or-true, true≢false}
+use mathlib.Core.Bool.{Bool, true, false, not, _&&_, cond, or-true, true≢false}
 use mathlib.Core.List.{List, [], _∷_, _++_}
 use native.Mathlib.Omega.{arith}
-use lib.Dec.{leb}
+use lib.Dec.{eqb, leb}
 use lib.ListN.{take}
 use borrow.Author.Tests.{leb-true, ne-eqb}
 use Rattle.answer.specs.Rows.{Row, _⇒_, first, oneOf, Iff}
@@ -15,11 +15,13 @@ use Rattle.isa.specs.declared.Instr.the-variants as I
 use Rattle.isa.specs.declared.Space.{Space}
 use Rattle.isa.specs.declared.VReg.{VReg}
 use Rattle.isa.specs.Decode.{decodeOf}
+use Rattle.isa.specs.Prefix.{prefixed}
 use Rattle.warp.specs.WellFormed.{wellFormedOf}
-use Rattle.definition.specs.State.{State, outcome, fixedOf, laneAt, instrAt}
+use Rattle.definition.specs.State.{State, Outcome, outcome, unless, fixedOf, laneAt, instrAt, usedUp}
 use Rattle.definition.specs.Refuse.{runsOkOf, onKernel, someOutside, someCrosses, accessTests, refusalsOf, stepTests, testsOf, stepNumbers}
 use Rattle.definition.specs.Exec.{effect, effectOf}
-use Rattle.definition.specs.Step.{stepOf, execOf, fetchOf}
+use Rattle.definition.specs.Step.{carriedOut, stepOf, execOf, fetchOf}
+use Rattle.definition.proofs.Used.{tests-used}
 
 -- The answer of a step is the number of the first row that holds, 0 where none does.
 pub step-rows : (k : List ℕ) (m : State) → stepOf k m .code ≡ first (testsOf k m)
@@ -64,6 +66,8 @@ rows-numbered I.EndPrg m = refl
 rows-numbered (I.Barrier n) m = refl
 rows-numbered (I.VLoad s k r a n) m = refl
 rows-numbered (I.VStore s k a b n) m = refl
+rows-numbered (I.RegExt n) m = refl
+rows-numbered (I.RegExtI n) m = refl
 
 -- A step's answer is 0 or one of its table's numbers, which are refusals' numbers.
 pub step-known : (k : List ℕ) (m : State) → oneOf (0 ∷ stepNumbers) (stepOf k m .code) ≡ true
@@ -153,6 +157,17 @@ module _ (k : List ℕ) (m : State) where
 
 -- ---- a step by its word
 
+-- what an instruction alone leaves, and where it is refused m
+abbrev pub keeping : Outcome → State → Outcome
+keeping o m = unless (o .code) (o .left) m
+
+kept-once : (n : ℕ) (new used m : State) → unless n new m ≡ keeping (unless n new used) m
+kept-once n new used m = go (eqb n 0)
+  where
+    go : (b : Bool) → outcome n (cond b new m) ≡ outcome n (cond b (cond b new used) m)
+    go true = refl
+    go false = refl
+
 stopped : (e b o : Bool) (rs : List (Row Bool)) → (first (3 ⇒ e ∷ 4 ⇒ b ∷ 5 ⇒ not o ∷ []) ≡ 0 → ⊥) → first (3 ⇒ e ∷ 4 ⇒ b ∷ 5 ⇒ not o ∷ rs) ≡ first (3 ⇒ e ∷ 4 ⇒ b ∷ 5 ⇒ not o ∷ [])
 stopped true b o rs z = refl
 stopped false true o rs z = refl
@@ -170,9 +185,13 @@ module _ (k : List ℕ) (m : State) (r : runsOkOf (fixedOf m) k (m .vector) (m .
   unfolding stepOf fetchOf
   step-unfetched z = rw (r, f, stopped (m .warp .ended) (m .warp .waiting) (onKernel k (m .warp)) (refusalsOf (instrAt k m) m) z, ne-eqb _ _ z)
 
-  pub step-fetched : fetchOf k (m .warp) .code ≡ 0 → stepOf k m ≡ execOf (decodeOf (fetchOf k (m .warp) .word)) m
+  -- the instruction alone, on the state whose prefix it uses up
+  pub step-fetched : fetchOf k (m .warp) .code ≡ 0
+      → stepOf k m ≡ keeping (execOf (prefixed (m .warp .prefix) (decodeOf (fetchOf k (m .warp) .word))) (usedUp m)) m
   unfolding stepOf fetchOf execOf
-  step-fetched z = rw (r, f, found (m .warp .ended) (m .warp .waiting) (onKernel k (m .warp)) (refusalsOf (instrAt k m) m) z, z)
+  step-fetched z =
+      rw (r, f, found (m .warp .ended) (m .warp .waiting) (onKernel k (m .warp)) (refusalsOf (instrAt k m) m) z, z, tests-used m (instrAt k m))
+      (kept-once (first (refusalsOf (instrAt k m) m)) (carriedOut (instrAt k m) (usedUp m)) (usedUp m) m)
 
 -- ---- an instruction alone
 

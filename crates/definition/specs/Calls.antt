@@ -9,12 +9,13 @@ use Rattle.lanes.specs.Lanes.{fileWords}
 use Rattle.warp.specs.declared.Launch.{Launch}
 use Rattle.warp.specs.declared.Warp.{Warp}
 use Rattle.isa.specs.Bounds.{scalarRegisters}
+use Rattle.isa.specs.Prefix.{noPrefix}
 use Rattle.warp.specs.Warp.{splitCount, zeroSplit, zeroWarp, withStop, Answered, answered}
 use Rattle.definition.specs.State.{State, state, Outcome, outcome, unless}
 use Rattle.definition.specs.Refuse.{stateTests, launchTests, releaseTests}
 use Rattle.definition.specs.Step.{stepOf}
 
--- ---- launch: scalar registers, RPC and PRINT 0, the mask the launch mask, no split open; the vector file 0, data memory as lent
+-- ---- launch: scalar registers, RPC and PRINT 0, the mask the launch mask, no split open, no prefix pending; the vector file 0, data memory as lent
 abbrev pub launchedOf : Launch → Warp
 launchedOf l =
     record {
@@ -27,6 +28,7 @@ launchedOf l =
       print = 0;
       ended = false;
       waiting = false;
+      prefix = noPrefix;
       fixed = l .fixed;
     }
 

@@ -1,5 +1,5 @@
 -- What each instruction does where no test refuses it: total, with no number in it, one line an instruction.
-use Prim.Native.Nat.{ℕ, _*_, _^_}
+use Prim.Native.Nat.{ℕ, _*_, _%_, _^_}
 use mathlib.Core.Bool.{Bool, true, false, cond, _||_}
 use mathlib.Core.List.{List}
 use denote.Enum.Declared.{tagOf}
@@ -15,6 +15,7 @@ use Rattle.isa.specs.declared.Source.the-variants as From
 use Rattle.isa.specs.declared.LoadOp.{LoadOp}
 use Rattle.isa.specs.declared.XReg.{XReg}
 use Rattle.isa.specs.declared.VReg.{VReg}
+use Rattle.isa.specs.Prefix.{regExt, regExtI}
 use Rattle.lanes.specs.declared.Lane.{Lane}
 use Rattle.lanes.specs.Lanes.{laneOf, operandOf, opLane, writeLanes, valueOf}
 use Rattle.lanes.specs.declared.Operand.{Operand}
@@ -22,7 +23,7 @@ use Rattle.lanes.specs.declared.Operand.the-variants.{Reg, Word}
 use Rattle.memory.specs.Memory.{loadOf, storeOf}
 use Rattle.memory.specs.LaneAccess.{storeLanes}
 use Rattle.warp.specs.declared.Warp.{Warp}
-use Rattle.warp.specs.Warp.{withStop, writeX, next, linked, branched}
+use Rattle.warp.specs.Warp.{withStop, writeX, next, pends, linked, branched}
 use Rattle.warp.specs.Splits.{parted, joinOf, setRpcOf}
 use Rattle.warp.specs.Csr.{csrDone}
 use Rattle.definition.specs.State.{State, state, fixedOf, active, xOf, pcBy, evenOf, memoryOf, scalarAt, laneAt, elseOf}
@@ -50,15 +51,16 @@ lanes r f m = writes (active m) r f
 abbrev pub isShift : Op → Bool
 isShift o = let n : ℕ = tagOf the-type o in eqb n (tagOf the-type Sll) || eqb n (tagOf the-type Srl) || eqb n (tagOf the-type Sra)
 
--- an operation's 5-bit immediate: a shift's is the field itself, every other one's is the field sign-extended
-abbrev pub immediateOf : Op → ℕ → ℕ
-immediateOf o i = cond (isShift o) i (extendOf 5 i)
+-- an operation's immediate i of n bits: a shift's are its low five bits, every other one's is sign-extended
+abbrev pub immediateOf : Op → ℕ → ℕ → ℕ
+immediateOf o n i = cond (isShift o) (i % 2 ^ 5) (extendOf n i)
 
--- a vector word's last operand: a register's lane, or one word for all lanes; of a VI form, what f makes of the 5-bit field
-abbrev pub sourceOf : (ℕ → ℕ) → Source → State → Operand
+-- a vector word's last operand: a register's lane, or one word for all lanes; of a VI form, what f makes of its 5 bits, behind REGEXTI of its 11
+abbrev pub sourceOf : (ℕ → ℕ → ℕ) → Source → State → Operand
 sourceOf f (From.V r) m = Reg r
 sourceOf f (From.X r) m = Word (xOf r m)
-sourceOf f (From.I i) m = Word (f i)
+sourceOf f (From.I i) m = Word (f 5 i)
+sourceOf f (From.Long i) m = Word (f 11 i)
 
 abbrev pub loaded : LoadOp → ℕ → State → ℕ
 loaded k a m = loadOf k (memoryOf m) a
@@ -78,7 +80,7 @@ effectOf (I.Fence r a n) m = goes (next (m .warp))
 effectOf (I.Csr o r a n) m = goes (csrDone o n r (a .0) (xOf a m) (m .warp))
 effectOf (I.CsrImm o r i n) m = goes (csrDone o n r i i (m .warp))
 effectOf (I.Vector o a) m = lanes (a .vd) (opLane o (m .vector) (a .vs2) (sourceOf (immediateOf o) (a .src) m)) m
-effectOf (I.VMove r s) m = lanes r (operandOf (m .vector) (sourceOf (extendOf 5) s m)) m
+effectOf (I.VMove r s) m = lanes r (operandOf (m .vector) (sourceOf extendOf s m)) m
 effectOf (I.VMoveXS r b) m = puts r (valueOf (fixedOf m .numt) (active m) (laneOf (m .vector) b)) m
 effectOf (I.VMoveSX r a) m = lanes r (λ l. xOf a m) m
 effectOf (I.Vid r) m = lanes r (λ l. l .0) m
@@ -89,3 +91,5 @@ effectOf I.EndPrg m = goes (withStop true false (m .warp))
 effectOf (I.Barrier n) m = goes (next (withStop false true (m .warp)))
 effectOf (I.VLoad s k r a n) m = lanes r (λ l. loaded k (laneAt s a n m l) m) m
 effectOf (I.VStore s k a b n) m = stores (storeLanes (fixedOf m .numt) (active m) k (laneAt s a n m) (laneOf (m .vector) b) (memoryOf m))
+effectOf (I.RegExt n) m = goes (pends regExt n (m .warp))
+effectOf (I.RegExtI n) m = goes (pends regExtI n (m .warp))

@@ -51,7 +51,7 @@ onKernel k w = leb (w .fixed .codeBase) (w .pc) && ltb (placeOf w) (length k)
 abbrev pub fetchTests : List ℕ → Warp → List (Row Bool)
 fetchTests k w = 3 ⇒ w .ended ∷ 4 ⇒ w .waiting ∷ 5 ⇒ not (onKernel k w) ∷ []
 
--- ---- 6 to 11 and 14: the word's own, one line an instruction
+-- ---- 6 to 11 and 14: the word's own, one line an instruction; Refused is a word that isn't in the tables, or that doesn't take the pending prefix
 
 -- CSR number outside 0x800 to 0x80C, or a write to one other than PRINT and RPC
 abbrev pub noCsr : CsrOp → ℕ → ℕ → Bool
@@ -110,6 +110,8 @@ refusalsOf I.EndPrg m = 11 ⇒ inSplit m ∷ []
 refusalsOf (I.Barrier n) m = 11 ⇒ inSplit m ∷ []
 refusalsOf (I.VLoad s k r a n) m = accessTests s (sizeOf k) a n m
 refusalsOf (I.VStore s k a b n) m = accessTests s (widthOf k) a n m
+refusalsOf (I.RegExt n) m = []
+refusalsOf (I.RegExtI n) m = []
 
 -- ---- the table of each call
 

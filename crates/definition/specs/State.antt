@@ -11,6 +11,7 @@ use Rattle.isa.specs.declared.Space.{Space}
 use Rattle.isa.specs.declared.XReg.{XReg}
 use Rattle.isa.specs.declared.VReg.{VReg}
 use Rattle.isa.specs.Decode.{decodeOf}
+use Rattle.isa.specs.Prefix.{noPrefix, prefixed}
 use Rattle.lanes.specs.declared.Lane.{Lane}
 use Rattle.lanes.specs.Mask.{bit}
 use Rattle.lanes.specs.Lanes.{maskOf, wantsOf}
@@ -19,7 +20,7 @@ use Rattle.memory.specs.Address.{plainOf, laneAddress}
 use Rattle.memory.specs.declared.Private.{Private}
 use Rattle.warp.specs.declared.Fixed.{Fixed}
 use Rattle.warp.specs.declared.Warp.{Warp}
-use Rattle.warp.specs.Warp.{readX}
+use Rattle.warp.specs.Warp.{readX, withPrefix}
 
 -- the warp, the vector file and the bytes of the data memory
 pub record State : Type 0 where
@@ -88,6 +89,10 @@ elseOf c a b m = maskOf (fixedOf m .numt) (wantsOf (m .vector) (m .warp .mask) c
 abbrev pub placeOf : Warp → ℕ
 placeOf w = (w .pc - w .fixed .codeBase) / 4
 
--- its instruction; a word that isn't in the tables decodes to Refused
+-- its instruction, with the pending prefix on it; Refused where the word isn't in the tables, or doesn't take the prefix
 abbrev pub instrAt : List ℕ → State → Instr
-instrAt k m = decodeOf (getD k (placeOf (m .warp)) 0)
+instrAt k m = prefixed (m .warp .prefix) (decodeOf (getD k (placeOf (m .warp)) 0))
+
+-- the state in which it is carried out: the prefix is used up
+abbrev pub usedUp : State → State
+usedUp m = state (withPrefix noPrefix (m .warp)) (m .vector) (m .bytes)

@@ -20,7 +20,8 @@ use Rattle.definition.specs.Calls.{ran, stepsOf, runOf}
 use Rattle.definition.proofs.Tests.{step-last}
 use Rattle.definition.proofs.Sound.{step-sound}
 use Rattle.definition.proofs.Sizes.{sizes-kept}
-use Rattle.definition.proofs.Target.{Within, targetOf, step-within}
+use Rattle.definition.proofs.Target.{Within, targetOf}
+use Rattle.definition.proofs.Used.{step-within}
 use Rattle.definition.proofs.Calls.{steps-end, steps-on, steps-stop, run-size, run-malformed, run-steps}
 use Rattle.handlers.specs.Handles.{Lists, lentWarp, lentState, Handles}
 use Rattle.exec.specs.Ready.{Started}

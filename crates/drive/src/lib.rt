@@ -17,7 +17,7 @@ const KERNEL_LIMIT: usize = 16384;
 
 const DATA_LIMIT: usize = 65536;
 
-const FILE_WORDS: usize = 1024;
+const FILE_WORDS: usize = 8192;
 
 const ADDRESSES: usize = 0x1_0000_0000;
 

@@ -17,7 +17,7 @@ use Rattle.isa.specs.Fields.{Fields, fieldsOf, funct6, vm, immI, immS, immB, im
 use Rattle.isa.specs.Table.{on, wordAt, asWords}
 use Rattle.isa.specs.Scalar.{luiWord, auipcWord, jalWord, jumps, jalrWord, conditions, branchAs, branchWord, loads, loadAs, loadWord, stores, storeAs, storeWord, immediates, leftShifts, rightShifts, immediateAs, shiftAs, shiftWord, shifts, opImmWord, opAs, byFunct3, ops, opWord, fences, fenceWord, csrOps, csrImmediates, csrAs, csrImmAs, csrWord}
 use Rattle.isa.specs.Vector.{OpForms, has, vectorTable, multiplyTable, vectorAs, moves, plainWord, movesM, multiplyWord, fromV, fromX, fromI, operands, operandsWord, vectorWord}
-use Rattle.isa.specs.Ventus.{vbranchAs, joinWord, joins, splitsWord, endPrgWord, barrierWord, stops, stopWord, vstores, accesses, vloadAs, vstoreAs, laneAccessWord, ploadAs, pstoreAs, privateWord}
+use Rattle.isa.specs.Ventus.{vbranchAs, joinWord, joins, splitsWord, endPrgWord, barrierWord, stops, stopWord, prefixWord, warpWords, warpWord, vstores, accesses, vloadAs, vstoreAs, laneAccessWord, ploadAs, pstoreAs, privateWord}
 use Rattle.isa.specs.Decode.{opcodes, decodeOf}
 use Rattle.isa.specs.Fits.{fieldOf}
 use Rattle.isa.proofs.Laws.{both-true, Rows, found, rows-append, every-row, rows-tested, fixed-at}
@@ -37,18 +37,18 @@ cut₃ w = omega arith
 cut₄ : (w : ℕ) → w / 32768 ≡ w / 32768 % 32 + w / 1048576 * 32
 cut₄ w = omega arith
 
-cut₅ : (w : ℕ) → w / 1048576 ≡ w / 1048576 % 32 + w / 33554432 * 32
-cut₅ w = omega arith
+cut₅ : (w : ℕ) → w < 2 ^ 32 → w / 1048576 ≡ w / 1048576 % 32 + w / 33554432 % 128 * 32
+cut₅ w b = omega arith
 
 sum :
     (w a b d e f g p q r s : ℕ) → w ≡ a + p * 128 → p ≡ b + q * 32 → q ≡ d + r * 8 → r ≡ e + s * 32 → s ≡ f + g * 32
     → a + b * 128 + d * 4096 + e * 32768 + f * 1048576 + g * 33554432 ≡ w
 sum w a b d e f g p q r s h₁ h₂ h₃ h₄ h₅ = omega arith
 
-whole : (w : ℕ) → wordFrom (w % 2 ^ 7) (fieldsOf w) ≡ w
-whole w =
-    sum w (w % 128) (w / 128 % 32) (w / 4096 % 8) (w / 32768 % 32) (w / 1048576 % 32) (w / 33554432) (w / 128) (w / 4096)
-    (w / 32768) (w / 1048576) (cut₁ w) (cut₂ w) (cut₃ w) (cut₄ w) (cut₅ w)
+whole : (w : ℕ) → w < 2 ^ 32 → wordFrom (w % 2 ^ 7) (fieldsOf w) ≡ w
+whole w b =
+    sum w (w % 128) (w / 128 % 32) (w / 4096 % 8) (w / 32768 % 32) (w / 1048576 % 32) (w / 33554432 % 128) (w / 128) (w / 4096)
+    (w / 32768) (w / 1048576) (cut₁ w) (cut₂ w) (cut₃ w) (cut₄ w) (cut₅ w b)
 
 same :
     (op : ℕ) (c : Fields) (f7 rs2 rs1 f3 rd : ℕ) → f7 ≡ c .funct7 → rs2 ≡ c .rs2 → rs1 ≡ c .rs1 → f3 ≡ c .funct3 → rd ≡ c .rd
@@ -330,6 +330,7 @@ module _ (c : Fields) (h : SmallFields c) where
     tt,
   )
   moves-m-back (From.I n) m o r = tt
+  moves-m-back (From.Long n) m o r = tt
 
   multiply-back : (s : Source) → vm c ≡ 1 → fieldOf s ≡ c .rs1 → operandCode 2 s ≡ c .funct3 → Back 0b1010111 c (multiplyWord s c)
   unfolding multiplyWord
@@ -370,11 +371,10 @@ module _ (c : Fields) (h : SmallFields c) where
       (table-back 0b1011011 c h vbranchAs (codeIn condNumber conditions) (c .funct3) conditions tt (λ o e. type-B 0b1011011 c h _ e))
       ((λ e. join-back e), ((λ e ne. type-I 0b1011011 c h 3 (sym e)), tt)))
 
-  stop-back : Back 0b0001011 c (stopWord c)
+  stop-back : c .funct3 ≡ 0b100 → Back 0b0001011 c (stopWord c)
   unfolding stopWord endPrgWord barrierWord wordOf
-  stop-back =
-      fixed-at (Back 0b0001011 c) (c .funct3) 0b100 _ (refused _ c)
-      (λ f. found (Back 0b0001011 c) (on c) I.Refused (c .funct7) stops (refused _ c) (
+  stop-back f =
+      found (Back 0b0001011 c) (on c) I.Refused (c .funct7) stops (refused _ c) (
         (λ e. fixed-at (Back 0b0001011 c) (c .rs2) 0 _ (refused _ c)
             (λ s. fixed-at (Back 0b0001011 c) (c .rs1) 0 _ (refused _ c)
             (λ r. fixed-at (Back 0b0001011 c) (c .rd) 0 I.EndPrg (refused _ c)
@@ -385,7 +385,25 @@ module _ (c : Fields) (h : SmallFields c) where
               (λ d ne. same 0b0001011 c 2 0 (c .rs1) 4 0 (sym e) (sym s) refl (sym f) (sym d)))),
           tt,
         ),
-      ))
+      )
+
+  -- a prefix, of whose word the fields of rs1 and rd are 0
+  prefix-back :
+      (f3 : ℕ) (make : ℕ → Instr) → (wordOf (make (immI c)) ≡ wordFrom 0b0001011 (typeI (immI c) 0 f3 0)) → c .funct3 ≡ f3
+      → Back 0b0001011 c (prefixWord make c)
+  unfolding prefixWord
+  prefix-back f3 make m f =
+      fixed-at (Back 0b0001011 c) (c .rs1) 0 _ (refused _ c)
+      (λ r. fixed-at (Back 0b0001011 c) (c .rd) 0 _ (refused _ c)
+      (λ d ne.
+      m
+      ∙ same 0b0001011 c _ _ _ _ _ (high (c .funct7) (c .rs2) (h .rs2)) (low (c .funct7) (c .rs2) (h .rs2)) (sym r) (sym f) (sym d)))
+
+  warp-back : Back 0b0001011 c (warpWord c)
+  unfolding warpWord wordOf
+  warp-back =
+      found (Back 0b0001011 c) (on c) I.Refused (c .funct3) warpWords (refused _ c)
+      ((λ f. stop-back f), ((λ f. prefix-back 2 I.RegExt refl f), ((λ f. prefix-back 3 I.RegExtI refl f), tt)))
 
   -- loads and stores of lanes
   accesses-back :
@@ -413,9 +431,9 @@ module _ (c : Fields) (h : SmallFields c) where
       accesses-back 0b0101011 ploadAs pstoreAs (λ o e. rw l (type-I 0b0101011 c h _ e)) (λ o e. rw s (type-S 0b0101011 c h _ e)))
 
 -- every word that is not Refused is the word of its own instruction
-pub back : (w : ℕ) → (decodeOf w ≡ I.Refused → ⊥) → wordOf (decodeOf w) ≡ w
+pub back : (w : ℕ) → w < 2 ^ 32 → (decodeOf w ≡ I.Refused → ⊥) → wordOf (decodeOf w) ≡ w
 unfolding decodeOf
-back w ne =
+back w b ne =
     let c = fieldsOf w in
     let h = small w in
     let at : (n : ℕ) (i : Instr) → Back n c i → w % 2 ^ 7 ≡ n → Back (w % 2 ^ 7) c i =
@@ -447,7 +465,7 @@ back w ne =
                             (
                               at 0b1011011 _ (splits-back c h),
                               (
-                                at 0b0001011 _ (stop-back c h),
+                                at 0b0001011 _ (warp-back c h),
                                 (at 0b1111011 _ (lane-access-back c h), (at 0b0101011 _ (private-back c h), tt)),
                               ),
                             ),
@@ -463,4 +481,4 @@ back w ne =
         ),
       ),
     )
-    ne ∙ whole w
+    ne ∙ whole w b

@@ -100,6 +100,7 @@ abbrev pub operandCode : ℕ → Source → ℕ
 operandCode n (From.V r) = n
 operandCode n (From.X r) = 0b100 + n
 operandCode n (From.I k) = 0b011
+operandCode n (From.Long k) = 0b011
 
 -- a word from its fields
 abbrev pub wordFrom : ℕ → Fields → ℕ
@@ -161,3 +162,5 @@ wordOf I.EndPrg = wordFrom 0b0001011 (typeR 0b0000000 0 0 0b100 0)
 wordOf (I.Barrier n) = wordFrom 0b0001011 (typeR 0b0000010 0 n 0b100 0)
 wordOf (I.VLoad s o d a n) = wordFrom (laneOpcode s) (typeI n (a .0) (codeIn loadNumber loads o) (d .0))
 wordOf (I.VStore s o a b n) = wordFrom (laneOpcode s) (typeS n (b .0) (a .0) (codeIn storeNumber vstores o))
+wordOf (I.RegExt n) = wordFrom 0b0001011 (typeI n 0 0b010 0)
+wordOf (I.RegExtI n) = wordFrom 0b0001011 (typeI n 0 0b011 0)

@@ -1,5 +1,5 @@
 -- What a step asks of the lent words.
-use Prim.Native.Nat.{ℕ}
+use Prim.Native.Nat.{ℕ, _+_, _-_, _*_, _/_, _^_, _<_, _≤_}
 use mathlib.Core.Path.{_≡_}
 use mathlib.Core.Bool.{true}
 use mathlib.Core.List.{List}
@@ -9,6 +9,12 @@ use Rattle.memory.specs.Memory.{memory, MemoryOk}
 use Rattle.layout.specs.Words.{fixedIn}
 use Rattle.layout.specs.Lent.{Lent}
 use Rattle.definition.specs.Refuse.{runsOkOf}
+use Rattle.isa.specs.declared.Instr.the-variants.{Refused}
+use Rattle.isa.specs.declared.Prefix.{Prefix}
+use Rattle.isa.specs.Fields.{fieldsOf}
+use Rattle.isa.specs.Decode.{decodeOf}
+use Rattle.isa.specs.Prefix.{onFields, prefixed}
+use Rattle.isa.specs.Wide.{digitsIn}
 use Rattle.handlers.specs.Handles.{Lists}
 
 -- a well-formed warp's words, with a file and data of the right sizes
@@ -21,3 +27,15 @@ pub record Ready (a : Lists) : Type 0 where
 pub record Started (k : List ℕ) (a : Lists) : Type 0 where
   pub lent : Lent (a .fixed) (a .moving) (a .scalars) (a .splits)
   pub sizes : runsOkOf (fixedIn (a .fixed)) k (a .vector) (a .bytes) ≡ true
+
+-- the PC lies on the kernel word r, or before all of them, and then r is after the last
+pub record Lies (pc base r : ℕ) : Type 0 where
+  pub on : base ≤ pc → r ≡ (pc - base) / 4
+  pub before : (n : ℕ) → base + 4 * n ≤ 2 ^ 32 → pc < base → n ≤ r
+
+-- the prefix p put on the word w: c is 0, and z is the word with the digits that its instruction is read with, or 6
+pub record Widens (p : Prefix) (w c z : ℕ) : Type 0 where
+  pub fields : c ≡ 0 → fieldsOf z ≡ fieldsOf w
+  pub taken : c ≡ 0 → prefixed p (decodeOf w) ≡ onFields (digitsIn z) (decodeOf w)
+  pub number : (c ≡ 0 → ⊥) → c ≡ 6
+  pub refused : (c ≡ 0 → ⊥) → prefixed p (decodeOf w) ≡ Refused

@@ -10,6 +10,7 @@ use handlers::jalr;
 use handlers::join;
 use handlers::load;
 use handlers::on;
+use handlers::pend;
 use handlers::setrpc;
 use handlers::store;
 use isa::Space;
@@ -28,6 +29,7 @@ use lane_handlers::vmove;
 use lane_handlers::vmove_sx;
 use lane_handlers::vmove_xs;
 use lane_handlers::vstore;
+use layout::BITS;
 use layout::CODEBASE;
 use layout::ENDED;
 use layout::FIXED;
@@ -35,19 +37,28 @@ use layout::FLAT;
 use layout::MASK;
 use layout::MOVING;
 use layout::PC;
+use layout::PREFIX;
 use layout::SCALARS;
 use layout::WAITING;
 use scalar_ops::op_reg;
 ghost use mathlib.Core.Path.{_≡_};
-ghost use mathlib.Core.List.{List, _++_};
-ghost use Prim.Native.Nat.{ℕ};
+ghost use mathlib.Core.Bool.{true};
+ghost use mathlib.Core.List.{List, [], _∷_, _++_};
+ghost use Prim.Native.Nat.{ℕ, _+_, _*_, _^_, _≤_};
+ghost use lib.ListN.{length, getD};
+ghost use Rattle.answer.specs.Rows.{_⇒_, first};
 ghost use Rattle.isa.specs.Fields.{fieldsOf};
 ghost use Rattle.isa.specs.Table.{wordAt};
 ghost use Rattle.isa.specs.Kinds.{laneGroups, ofRegisters, ofImmediates, instrOf};
-ghost use Rattle.layout.specs.Words.{warpOf};
+ghost use Rattle.isa.specs.Wide.{wideOf};
+ghost use Rattle.warp.specs.WellFormed.{prefixOkOf};
+ghost use Rattle.isa.specs.Prefix.{noPrefix};
+ghost use Rattle.warp.specs.Warp.{withPrefix};
+ghost use Rattle.layout.specs.Words.{flatCount, movingCount, isSet, prefixAt, endedIn, waitingIn, prefixIn, fixedIn, warpOf};
+ghost use Rattle.running.specs.Goes.{Goes};
 ghost use Rattle.definition.specs.Step.{execOf, stepOf, fetched, fetchOf};
 ghost use Rattle.handlers.specs.Handles.{lists, Handles};
-ghost use Rattle.exec.specs.Ready.{Ready, Started};
+ghost use Rattle.exec.specs.Ready.{Ready, Started, Lies, Widens};
 
 // ---- the rows
 
@@ -60,10 +71,10 @@ fn lane_word(
     v: &mut [u32],
     d: &mut [u8],
     kind: u32,
-    w: u32,
+    w: u64,
 ) -> u32
     requires { ⌜ Ready (lists (now g) (now h) (now x) (now s) (now v) (now d)) × (instrOf kind w ≡ wordAt (fieldsOf w) kind (laneGroups ++ ofRegisters ++ ofImmediates)) ⌝ }
-    ensures { λ c. ⌜ Handles (execOf (instrOf kind w)) c (lists (now (g .entry)) (now (h .entry)) (now (x .entry)) (now (s .entry)) (now (v .entry)) (now (d .entry))) (lists (now (g .entry)) (now (h .exit)) (now (x .exit)) (now (s .exit)) (now (v .exit)) (now (d .exit))) ⌝ }
+    ensures { λ c. ⌜ Handles (execOf (wideOf kind w)) c (lists (now (g .entry)) (now (h .entry)) (now (x .entry)) (now (s .entry)) (now (v .entry)) (now (d .entry))) (lists (now (g .entry)) (now (h .exit)) (now (x .exit)) (now (s .exit)) (now (v .exit)) (now (d .exit))) ⌝ }
 {
     let mask = h[MASK];
     match kind {
@@ -86,6 +97,8 @@ fn lane_word(
         kinds::VMOVE_SX => vmove_sx(h, g, x, v, w),
         kinds::VID => vid(h, g, v, w),
         kinds::VMOVE => vmove(h, g, x, v, w),
+        kinds::REGEXT => pend(prefix::REGEXT, h, w),
+        kinds::REGEXTI => pend(prefix::REGEXTI, h, w),
         _ => op_reg(h, x, kind, w),
     }
 }
@@ -99,10 +112,10 @@ fn exec(
     v: &mut [u32],
     d: &mut [u8],
     kind: u32,
-    w: u32,
+    w: u64,
 ) -> u32
     requires { ⌜ Ready (lists (now g) (now h) (now x) (now s) (now v) (now d)) ⌝ }
-    ensures { λ c. ⌜ Handles (execOf (instrOf kind w)) c (lists (now (g .entry)) (now (h .entry)) (now (x .entry)) (now (s .entry)) (now (v .entry)) (now (d .entry))) (lists (now (g .entry)) (now (h .exit)) (now (x .exit)) (now (s .exit)) (now (v .exit)) (now (d .exit))) ⌝ }
+    ensures { λ c. ⌜ Handles (execOf (wideOf kind w)) c (lists (now (g .entry)) (now (h .entry)) (now (x .entry)) (now (s .entry)) (now (v .entry)) (now (d .entry))) (lists (now (g .entry)) (now (h .exit)) (now (x .exit)) (now (s .exit)) (now (v .exit)) (now (d .exit))) ⌝ }
 {
     if kinds::VECTOR <= kind {
         return vector(h, g, x, v, kind, w);
@@ -129,31 +142,36 @@ pub struct Word {
     pub word: u32,
 }
 
-// The tests 3 to 5, and the word that the PC lies on.
-pub fn fetch(h: &[u32; MOVING], g: &[u32; FIXED], k: &[u32]) -> Word
-    ensures { λ r. ⌜ ((x s : List ℕ) → fetched (r .code) (r .word) ≡ fetchOf (now (k .entry)) (warpOf (now (g .entry)) (now (h .entry)) x s)) ⌝ }
+// Which of 3 and 4 it is.
+fn stop_number(h: &[u32; MOVING]) -> u32
+    requires { ⌜ (endedIn (now h) ≡ 0 → waitingIn (now h) ≡ 0 → ⊥) ⌝ }
+    ensures { λ r. ⌜ r ≡ first (3 ⇒ isSet (endedIn (now (h .entry))) ∷ 4 ⇒ isSet (waitingIn (now (h .entry))) ∷ []) ⌝ }
 {
     if h[ENDED] != 0 {
+        return answer::ENDED;
+    }
+    answer::WAITING
+}
+
+// Which kernel word the PC lies on: a PC before the code wraps to a place after it, since code ends at 2^32 at the latest.
+fn place(pc: u32, base: u32) -> usize
+    ensures { λ r. ⌜ Lies pc base r ⌝ }
+{
+    layout::wide(word::sub(pc, base) / 4)
+}
+
+// The tests 3 to 5, and the word that the PC lies on.
+pub fn fetch(h: &[u32; MOVING], g: &[u32; FIXED], k: &[u32]) -> Word
+    requires { ⌜ fixedIn (now g) .codeBase + 4 * length (now k) ≤ 2 ^ 32 ⌝ }
+    ensures { λ r. ⌜ ((x s : List ℕ) → fetched (r .code) (r .word) ≡ fetchOf (now (k .entry)) (warpOf (now (g .entry)) (now (h .entry)) x s)) ⌝ }
+{
+    if (h[ENDED] | h[WAITING]) != 0 {
         return Word {
-            code: answer::ENDED,
+            code: stop_number(h),
             word: 0,
         };
     }
-    if h[WAITING] != 0 {
-        return Word {
-            code: answer::WAITING,
-            word: 0,
-        };
-    }
-    let pc = h[PC];
-    let base = g[CODEBASE];
-    if pc < base {
-        return Word {
-            code: answer::OFF_KERNEL,
-            word: 0,
-        };
-    }
-    let at = layout::wide((pc - base) / 4);
+    let at = place(h[PC], g[CODEBASE]);
     if k.len() <= at {
         return Word {
             code: answer::OFF_KERNEL,
@@ -164,6 +182,48 @@ pub fn fetch(h: &[u32; MOVING], g: &[u32; FIXED], k: &[u32]) -> Word
         code: answer::DONE,
         word: k[at],
     }
+}
+
+// Why a word that was fetched isn't run, or 0 and the word with the digits of the pending prefix above it.
+pub struct WideWord {
+    pub code: u32,
+    pub word: u64,
+}
+
+// The pending prefix put on the word w, where there is one: then the word has to take it.
+fn widened(h: &[u32; MOVING], w: u32) -> WideWord
+    requires { ⌜ prefixOkOf (prefixIn (now h)) ≡ true ⌝ }
+    ensures { λ r. ⌜ Widens (prefixIn (now (h .entry))) w (r .code) (r .word) ⌝ }
+{
+    let kind = h[PREFIX];
+    if kind == 0 {
+        return WideWord {
+            code: answer::DONE,
+            word: w as u64,
+        };
+    }
+    let bits = h[BITS];
+    if !prefix::takes(kind, bits, w) {
+        return WideWord {
+            code: answer::UNKNOWN,
+            word: 0,
+        };
+    }
+    WideWord {
+        code: answer::DONE,
+        word: prefix::widen(kind, bits, w),
+    }
+}
+
+// No prefix is pending any more. Where none was, nothing is written: the loop over steps then keeps both words as they are (docs/SPEED.md).
+fn use_up(h: &mut [u32; MOVING])
+    requires { ⌜ (length (now h) ≡ movingCount) × (getD (now h) prefixAt 0 ≡ 0 → prefixIn (now h) ≡ noPrefix) ⌝ }
+    ensures { λ _. ⌜ ((g x s : List ℕ) → length s ≡ flatCount → Goes (withPrefix noPrefix) g (now (h .entry)) x s (now (h .exit)) x s) ⌝ }
+{
+    if h[PREFIX] == 0 {
+        return;
+    }
+    running::put_prefix(h, 0, 0);
 }
 
 // The tests of a step after 1 and 2, and the instruction. A run has tested the sizes and the warp once, and every step keeps them.
@@ -186,5 +246,19 @@ pub fn step(
         return code;
     }
     let w = f.word;
-    exec(h, g, x, s, v, d, decoder::kind(w), w)
+    let wide = widened(h, w);
+    let refused = wide.code;
+    if refused != 0 {
+        return refused;
+    }
+    let z = wide.word;
+    let kind = h[PREFIX];
+    let bits = h[BITS];
+    use_up(h);
+    let c = exec(h, g, x, s, v, d, decoder::kind(w), z);
+    if c == 0 {
+        return answer::DONE;
+    }
+    running::put_prefix(h, kind, bits);
+    c
 }

@@ -10,12 +10,13 @@ use lib.ListN.{getD, drop, length}
 use lib.Bits.{bitOr, or-zero-l, or-add-and, and-le-r}
 use borrow.Author.Tests.{ne-eqb, eqb-true, le-leb, lt-leb}
 use Rattle.answer.proofs.Rows.{both, every-at}
+use Rattle.isa.specs.Prefix.{pending}
 use Rattle.warp.specs.declared.Split.{Split}
 use Rattle.warp.specs.declared.Warp.{Warp}
 use Rattle.warp.specs.Warp.{splitCount, aligned}
-use Rattle.warp.specs.WellFormed.{fixedOkOf, splitOkOf, chainOf, isZero, allZero, wellFormedOf}
+use Rattle.warp.specs.WellFormed.{fixedOkOf, splitOkOf, chainOf, isZero, allZero, prefixOkOf, wellFormedOf}
 use Rattle.warp.proofs.Chain.{chain-step, chain-end, zero-step, zero-end}
-use Rattle.layout.specs.Words.{splitSize, flatCount, isSet, isFlag, depthIn, pcIn, maskIn, endedIn, waitingIn, fixedIn, phaseAt, splitAt, splitsIn, warpOf, phasesOkOf, soundOf, splitsWords, movingWords, fixedWords}
+use Rattle.layout.specs.Words.{splitSize, flatCount, isSet, isFlag, depthIn, pcIn, maskIn, endedIn, waitingIn, prefixIn, fixedIn, phaseAt, splitAt, splitsIn, warpOf, phasesOkOf, soundOf, splitsWords, movingWords, fixedWords}
 use Rattle.layout.proofs.Splits.{splits-length, splits-get, phases-step}
 use Rattle.layout.proofs.Words.{apart, apart-sound}
 
@@ -124,28 +125,32 @@ unused-phases (suc n) s d e z =
 -- ---- all of it
 
 -- the order in which the code asks, and that of the definition
-tests : (e w f a z u o p p' c q : Bool) → (u ≡ true → p ≡ p')
-    → (e && (w && (f && (a && (z && (u && (o && ((p' && c) && q)))))))) ≡ ((e && (w && (p && true))) && (f && (a && (z && (u && (o && (c && (q && true))))))))
-tests false w f a z u o p p' c q h = refl
-tests true false f a z u o p p' c q h = refl
-tests true true f a z false o p p' c q h = simp (and-false, and-true)
-tests true true f a z true o p true c q h = rw (h refl) (simp and-true)
-tests true true f a z true o p false c q h = rw (h refl) (simp and-false)
+tests : (e w f a z u o p p' c q r t : Bool) → (u ≡ true → p ≡ p')
+    → (e && (w && (f && (a && (z && (u && (o && ((p' && c) && (q && (r && t)))))))))) ≡ ((e && (w && (p && true))) && (f && (a && (z && (u && (o && (c && (q && (r && (t && true))))))))))
+tests false w f a z u o p p' c q r t h = refl
+tests true false f a z u o p p' c q r t h = refl
+tests true true f a z false o p p' c q r t h = simp (and-false, and-true)
+tests true true f a z true o p true c q r t h = rw (h refl) (simp and-true)
+tests true true f a z true o p false c q r t h = rw (h refl) (simp and-false)
 
 module _ (g h x s : List ℕ) where
   pub formed-deep : splitCount < depthIn h → false ≡ (soundOf h s && wellFormedOf (warpOf g h x s))
   unfolding soundOf
   formed-deep d = rw (lt-leb _ _ d)
 
-  pub formed-words : (f u c : Bool) → depthIn h ≤ splitCount → f ≡ fixedOkOf (fixedIn g) → u ≡ allZero (drop (depthIn h) (splitsIn s))
-      → c ≡ (phasesOkOf (depthIn h) s && chainOf (fixedIn g .launchMask) (splitsIn s) (depthIn h) (maskIn h))
-      → (isFlag (endedIn h) && (isFlag (waitingIn h) && (f && (aligned (pcIn h) && (eqb (getD x 0 0) 0 && (u && (not (isSet (endedIn h) && isSet (waitingIn h)) && (c && not ((isSet (endedIn h) || isSet (waitingIn h)) && ltb 0 (depthIn h))))))))))
+  -- ended or waiting
+  abbrev stopped : Bool
+  stopped = isSet (endedIn h) || isSet (waitingIn h)
+
+  pub formed-words : (f u c r : Bool) → depthIn h ≤ splitCount → f ≡ fixedOkOf (fixedIn g) → u ≡ allZero (drop (depthIn h) (splitsIn s))
+      → c ≡ (phasesOkOf (depthIn h) s && chainOf (fixedIn g .launchMask) (splitsIn s) (depthIn h) (maskIn h)) → r ≡ prefixOkOf (prefixIn h)
+      → (isFlag (endedIn h) && (isFlag (waitingIn h) && (f && (aligned (pcIn h) && (eqb (getD x 0 0) 0 && (u && (not (isSet (endedIn h) && isSet (waitingIn h)) && (c && (not (stopped && ltb 0 (depthIn h)) && (r && not (stopped && pending (prefixIn h))))))))))))
       ≡ (soundOf h s && wellFormedOf (warpOf g h x s))
   unfolding soundOf warpOf wellFormedOf
-  formed-words f u c d ef eu ec =
-      rw (ef, eu, ec, le-leb _ _ d)
+  formed-words f u c r d ef eu ec er =
+      rw (ef, eu, ec, er, le-leb _ _ d)
       (tests (isFlag (endedIn h)) (isFlag (waitingIn h)) (fixedOkOf (fixedIn g)) (aligned (pcIn h)) (eqb (getD x 0 0) 0) (allZero (drop (depthIn h) (splitsIn s))) (not (isSet (endedIn h) && isSet (waitingIn h)))
-      (phasesOkOf splitCount s) (phasesOkOf (depthIn h) s) (chainOf (fixedIn g .launchMask) (splitsIn s) (depthIn h) (maskIn h)) (not ((isSet (endedIn h) || isSet (waitingIn h)) && ltb 0 (depthIn h)))
+      (phasesOkOf splitCount s) (phasesOkOf (depthIn h) s) (chainOf (fixedIn g .launchMask) (splitsIn s) (depthIn h) (maskIn h)) (not (stopped && ltb 0 (depthIn h))) (prefixOkOf (prefixIn h)) (not (stopped && pending (prefixIn h)))
       (unused-phases (splitCount - depthIn h) s (depthIn h) (omega arith)))
 
 -- ---- of a warp

@@ -1,4 +1,5 @@
 // The one test of a warp: its words are a warp's, and it is well formed.
+use layout::BITS;
 use layout::DEPTH;
 use layout::ELSEMASK;
 use layout::ELSEPC;
@@ -11,6 +12,7 @@ use layout::MASK;
 use layout::MOVING;
 use layout::PC;
 use layout::PHASE;
+use layout::PREFIX;
 use layout::SCALARS;
 use layout::SPLIT;
 use layout::WAITING;
@@ -25,8 +27,9 @@ ghost use mathlib.Core.Path.{_≡_};
 ghost use mathlib.Core.Bool.{_&&_, cond};
 ghost use Prim.Native.Nat.{_+_, _-_, _*_, _≤_, _<_};
 ghost use lib.ListN.{drop};
+ghost use Rattle.isa.specs.Prefix.{prefix};
 ghost use Rattle.warp.specs.Warp.{splitCount};
-ghost use Rattle.warp.specs.WellFormed.{splitOkOf, chainOf, allZero, wellFormedOf};
+ghost use Rattle.warp.specs.WellFormed.{splitOkOf, chainOf, allZero, prefixOkOf, wellFormedOf};
 ghost use Rattle.layout.specs.Words.{isSet, isFlag, phaseAt, splitAt, splitsIn, warpOf, phasesOkOf, soundOf};
 
 // ---- the test of well-formedness
@@ -86,6 +89,13 @@ fn unused_ok(s: &[u32; FLAT], depth: usize) -> bool
     any == 0
 }
 
+// No prefix is pending, or one of the two kinds with 12 bits.
+fn prefix_ok(kind: u32, bits: u32) -> bool
+    ensures { λ r. ⌜ r ≡ prefixOkOf (prefix kind bits) ⌝ }
+{
+    (kind <= 2) & ((bits < 4096) & ((kind != 0) | (bits == 0)))
+}
+
 // A well-formed warp's words.
 pub fn words_ok(h: &[u32; MOVING], g: &[u32; FIXED], x: &[u32; SCALARS], s: &[u32; FLAT]) -> bool
     ensures { λ r. ⌜ r ≡ (soundOf (now (h .entry)) (now (s .entry)) && wellFormedOf (warpOf (now (g .entry)) (now (h .entry)) (now (x .entry)) (now (s .entry)))) ⌝ }
@@ -100,6 +110,7 @@ pub fn words_ok(h: &[u32; MOVING], g: &[u32; FIXED], x: &[u32; SCALARS], s: &[u3
     let unused = unused_ok(s, depth);
     let chain = chain_ok(s, depth, h[MASK], g[LAUNCHMASK]);
     let stopped = (ended != 0) | (waiting != 0);
+    let prefix = prefix_ok(h[PREFIX], h[BITS]);
     (ended <= 1)
         & ((waiting <= 1)
             & (fixed
@@ -107,7 +118,9 @@ pub fn words_ok(h: &[u32; MOVING], g: &[u32; FIXED], x: &[u32; SCALARS], s: &[u3
                     & ((x[0] == 0)
                         & (unused
                             & (!((ended != 0) & (waiting != 0))
-                                & (chain & !(stopped & (0 < depth)))))))))
+                                & (chain
+                                    & (!(stopped & (0 < depth))
+                                        & (prefix & !(stopped & (h[PREFIX] != 0)))))))))))
 }
 
 pub fn well_formed(w: Warp) -> bool

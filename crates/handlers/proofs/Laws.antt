@@ -16,7 +16,6 @@ use Rattle.isa.specs.declared.Instr.the-variants as I
 use Rattle.isa.specs.declared.XReg.{XReg}
 use Rattle.isa.specs.declared.LoadOp.{LoadOp}
 use Rattle.isa.specs.declared.VReg.{VReg}
-use Rattle.isa.specs.Fields.{x as xOf}
 use Rattle.lanes.specs.declared.Lane.{Lane}
 use Rattle.lanes.specs.Lanes.{writeLanes}
 use Rattle.memory.specs.declared.Loaded.the-variants.{Found, Outside}
@@ -87,6 +86,12 @@ module _ (i : Instr) (g h x s v d h' : List ℕ) (z : length h ≡ movingCount) 
 -- the instruction that a match found
 pub told : {i j : Instr} {c : ℕ} {a b : Lists} → i ≡ j → Handles (execOf j) c a b → Handles (execOf i) c a b
 told e q = rw e q
+
+-- PC + 4 after a move f
+pub on-after : (f : Warp → Warp) (g h x s h' x' s' h'' : List ℕ) → Goes f g h x s h' x' s' → h'' ≡ nextIn h' → Goes (λ w. next (f w)) g h x s h'' x' s'
+on-after f g h x s h' x' s' h'' q e =
+    let p = next-goes g h' x' s' (q .long) (q .room) h'' x' next e refl in
+    record { long = p .long; room = p .room; sound = λ o. p .sound (q .sound o); goes = p .goes ∙ ap next (q .goes) }
 
 -- ---- a table of one row
 
@@ -168,19 +173,19 @@ csr-range o n rs1 e = go (leb 0x800 n) (leb n 0x80c) refl refl e
     go true false p q z = absurd (true≢false z)
     go false b p q z = absurd (true≢false z)
 
--- a CSR word, of either form
+-- a CSR word, of either form: by the register a, or by the field i
 pub csr-word :
-    (b : Bool) (o : CsrOp) (r : XReg) (a n y : ℕ) (g h x s v d h' x' : List ℕ) → true ≡ not (noCsr o n a) → y ≡ cond b (getD x a 0) a
-    → Goes (csrDone o n r a y) g h x s h' x' s → Handles (execOf (cond b (I.Csr o r (xOf a) n) (I.CsrImm o r a n))) 0 (lists g h x s v d) (lists g h' x' s v d)
+    (b : Bool) (o : CsrOp) (r a : XReg) (i n y : ℕ) (g h x s v d h' x' : List ℕ) → true ≡ not (noCsr o n (cond b (a .0) i)) → y ≡ cond b (getD x (a .0) 0) i
+    → Goes (csrDone o n r (cond b (a .0) i) y) g h x s h' x' s → Handles (execOf (cond b (I.Csr o r a n) (I.CsrImm o r i n))) 0 (lists g h x s v d) (lists g h' x' s v d)
 unfolding warpOf effectOf refusalsOf
-csr-word true o r a n y g h x s v d h' x' t ey q =
-    moved (I.Csr o r (xOf a) n) (csrDone o n r a y) g h x s v d h' x' s q (rw (not-true (noCsr o n a) (sym t))) (ap (λ (z : ℕ). goes (csrDone o n r a z (warpOf g h x s))) (sym ey))
-csr-word false o r a n y g h x s v d h' x' t ey q =
-    moved (I.CsrImm o r a n) (csrDone o n r a y) g h x s v d h' x' s q (rw (not-true (noCsr o n a) (sym t))) (ap (λ (z : ℕ). goes (csrDone o n r a z (warpOf g h x s))) (sym ey))
+csr-word true o r a i n y g h x s v d h' x' t ey q =
+    moved (I.Csr o r a n) (csrDone o n r (a .0) y) g h x s v d h' x' s q (rw (not-true (noCsr o n (a .0)) (sym t))) (ap (λ (z : ℕ). goes (csrDone o n r (a .0) z (warpOf g h x s))) (sym ey))
+csr-word false o r a i n y g h x s v d h' x' t ey q =
+    moved (I.CsrImm o r i n) (csrDone o n r i y) g h x s v d h' x' s q (rw (not-true (noCsr o n i) (sym t))) (ap (λ (z : ℕ). goes (csrDone o n r i z (warpOf g h x s))) (sym ey))
 
 pub csr-refused :
-    (b : Bool) (o : CsrOp) (r : XReg) (a n : ℕ) (l : Lists) → length (l .moving) ≡ movingCount → length (l .splits) ≡ flatCount → false ≡ not (noCsr o n a)
-    → Handles (execOf (cond b (I.Csr o r (xOf a) n) (I.CsrImm o r a n))) 7 l l
+    (b : Bool) (o : CsrOp) (r a : XReg) (i n : ℕ) (l : Lists) → length (l .moving) ≡ movingCount → length (l .splits) ≡ flatCount → false ≡ not (noCsr o n (cond b (a .0) i))
+    → Handles (execOf (cond b (I.Csr o r a n) (I.CsrImm o r i n))) 7 l l
 unfolding refusalsOf
-csr-refused true o r a n l z m t = refused (I.Csr o r (xOf a) n) 7 l (λ e. omega arith) z m (rw (not-false (noCsr o n a) (sym t)))
-csr-refused false o r a n l z m t = refused (I.CsrImm o r a n) 7 l (λ e. omega arith) z m (rw (not-false (noCsr o n a) (sym t)))
+csr-refused true o r a i n l z m t = refused (I.Csr o r a n) 7 l (λ e. omega arith) z m (rw (not-false (noCsr o n (a .0)) (sym t)))
+csr-refused false o r a i n l z m t = refused (I.CsrImm o r i n) 7 l (λ e. omega arith) z m (rw (not-false (noCsr o n i) (sym t)))

@@ -1,4 +1,4 @@
-// The handlers of jumps, branches, scalar accesses, CSR words, FENCE, AUIPC, JOIN, SETRPC, ENDPRG and BARRIER on the lent words, and what other handlers read and write with.
+// The handlers of jumps, branches, scalar accesses, CSR words, FENCE, AUIPC, JOIN, SETRPC, ENDPRG, BARRIER and the prefixes on the lent words, and what other handlers read and write with.
 use isa::Instr;
 use isa::fields;
 use isa::fields::imm_i;
@@ -21,10 +21,11 @@ ghost use Prim.Native.Nat.{ℕ, _%_, _^_, _<_, _≤_};
 ghost use lib.Dec.{ltb};
 ghost use lib.ListN.{length, getD};
 ghost use Rattle.word.specs.Word.{addOf, extendOf};
-ghost use Rattle.isa.specs.Fields.{fieldsOf, x as xOf, immI, immS, immB, immU, immJ};
-ghost use Rattle.isa.specs.Kinds.{condOf, loadOpOf, storeOpOf, csrOpOf, anyCsrWord};
+ghost use Rattle.isa.specs.Fields.{fieldsOf, immI, immS, immB, immU, immJ};
+ghost use Rattle.isa.specs.Wide.{xdIn, xs1In, xs2In, ofRegister, csrWide, csrSource};
+ghost use Rattle.isa.specs.Kinds.{condOf, loadOpOf, storeOpOf, csrOpOf};
 ghost use Rattle.memory.specs.Memory.{memory, MemoryOk};
-ghost use Rattle.warp.specs.Warp.{splitCount};
+ghost use Rattle.warp.specs.Warp.{splitCount, pends};
 ghost use Rattle.warp.specs.Facts.{FixedOk};
 ghost use Rattle.layout.specs.Words.{movingCount, flatCount, pcIn, depthIn, fixedIn};
 ghost use Rattle.running.specs.Goes.{Goes};
@@ -48,26 +49,26 @@ pub fn threads(g: &[u32; FIXED]) -> usize
     layout::wide(g[NUMT])
 }
 
-pub fn first(x: &[u32; SCALARS], w: u32) -> u32
-    ensures { λ y. ⌜ y ≡ getD (now (x .entry)) (fieldsOf w .rs1) 0 ⌝ }
+pub fn first(x: &[u32; SCALARS], w: u64) -> u32
+    ensures { λ y. ⌜ y ≡ getD (now (x .entry)) (xs1In w .0) 0 ⌝ }
 {
     running::get_x(x, fields::xs1(w))
 }
 
-pub fn second(x: &[u32; SCALARS], w: u32) -> u32
-    ensures { λ y. ⌜ y ≡ getD (now (x .entry)) (fieldsOf w .rs2) 0 ⌝ }
+pub fn second(x: &[u32; SCALARS], w: u64) -> u32
+    ensures { λ y. ⌜ y ≡ getD (now (x .entry)) (xs2In w .0) 0 ⌝ }
 {
     running::get_x(x, fields::xs2(w))
 }
 
-pub fn immediate(w: u32) -> u32
+pub fn immediate(w: u64) -> u32
     ensures { λ y. ⌜ y ≡ extendOf 12 (immI (fieldsOf w)) ⌝ }
 {
     word::extend(12, imm_i(w) as u32)
 }
 
 // A shift's amount: five bits, so that sign extension from twelve changes nothing.
-pub fn amount(w: u32) -> u32
+pub fn amount(w: u64) -> u32
     ensures { λ y. ⌜ y ≡ extendOf 12 (fieldsOf w .rs2) ⌝ }
 {
     fields::shift_amount(w) as u32
@@ -76,7 +77,7 @@ pub fn amount(w: u32) -> u32
 // ---- the warp alone
 
 // PC + 4 and nothing else.
-pub fn on(h: &mut [u32; MOVING], w: u32) -> u32
+pub fn on(h: &mut [u32; MOVING], w: u64) -> u32
     requires { ⌜ length (now h) ≡ movingCount ⌝ }
     ensures { λ c. ⌜ ((g x s v d : List ℕ) → length s ≡ flatCount → Handles (execOf (Instr.Fence (fieldsOf w .rd) (fieldsOf w .rs1) (immI (fieldsOf w)))) c (lists g (now (h .entry)) x s v d) (lists g (now (h .exit)) x s v d)) ⌝ }
 {
@@ -85,26 +86,36 @@ pub fn on(h: &mut [u32; MOVING], w: u32) -> u32
 }
 
 // y goes to rd, and the PC to PC + 4. It is the first argument: with x lent before it the prover's walk does not cover the call.
-pub fn gives(y: u32, h: &mut [u32; MOVING], x: &mut [u32; SCALARS], w: u32) -> u32
+pub fn gives(y: u32, h: &mut [u32; MOVING], x: &mut [u32; SCALARS], w: u64) -> u32
     requires { ⌜ length (now h) ≡ movingCount ⌝ }
-    ensures { λ c. ⌜ (c ≡ 0) × ((g s : List ℕ) → length s ≡ flatCount → Goes (putsIn (xOf (fieldsOf w .rd)) y) g (now (h .entry)) (now (x .entry)) s (now (h .exit)) (now (x .exit)) s) ⌝ }
+    ensures { λ c. ⌜ (c ≡ 0) × ((g s : List ℕ) → length s ≡ flatCount → Goes (putsIn (xdIn w) y) g (now (h .entry)) (now (x .entry)) s (now (h .exit)) (now (x .exit)) s) ⌝ }
 {
     running::put_x(x, fields::xd(w), y);
     running::next(h);
     answer::DONE
 }
 
-pub fn auipc(h: &mut [u32; MOVING], x: &mut [u32; SCALARS], w: u32) -> u32
+// A prefix: it is pending for the next word, and the PC goes to PC + 4.
+pub fn pend(kind: u32, h: &mut [u32; MOVING], w: u64) -> u32
     requires { ⌜ length (now h) ≡ movingCount ⌝ }
-    ensures { λ c. ⌜ ((g s v d : List ℕ) → length s ≡ flatCount → Handles (execOf (Instr.Auipc (xOf (fieldsOf w .rd)) (immU (fieldsOf w)))) c (lists g (now (h .entry)) (now (x .entry)) s v d) (lists g (now (h .exit)) (now (x .exit)) s v d)) ⌝ }
+    ensures { λ c. ⌜ (c ≡ 0) × ((g x s : List ℕ) → length s ≡ flatCount → Goes (pends kind (immI (fieldsOf w))) g (now (h .entry)) x s (now (h .exit)) x s) ⌝ }
+{
+    running::put_prefix(h, kind, imm_i(w) as u32);
+    running::next(h);
+    answer::DONE
+}
+
+pub fn auipc(h: &mut [u32; MOVING], x: &mut [u32; SCALARS], w: u64) -> u32
+    requires { ⌜ length (now h) ≡ movingCount ⌝ }
+    ensures { λ c. ⌜ ((g s v d : List ℕ) → length s ≡ flatCount → Handles (execOf (Instr.Auipc (xdIn w) (immU (fieldsOf w)))) c (lists g (now (h .entry)) (now (x .entry)) s v d) (lists g (now (h .exit)) (now (x .exit)) s v d)) ⌝ }
 {
     let y = word::add(h[PC], fields::imm_u(w) * 4096);
     gives(y, h, x, w)
 }
 
-pub fn jal(h: &mut [u32; MOVING], x: &mut [u32; SCALARS], w: u32) -> u32
+pub fn jal(h: &mut [u32; MOVING], x: &mut [u32; SCALARS], w: u64) -> u32
     requires { ⌜ length (now h) ≡ movingCount ⌝ }
-    ensures { λ c. ⌜ ((g s v d : List ℕ) → length s ≡ flatCount → Handles (execOf (Instr.Jal (xOf (fieldsOf w .rd)) (immJ (fieldsOf w)))) c (lists g (now (h .entry)) (now (x .entry)) s v d) (lists g (now (h .exit)) (now (x .exit)) s v d)) ⌝ }
+    ensures { λ c. ⌜ ((g s v d : List ℕ) → length s ≡ flatCount → Handles (execOf (Instr.Jal (xdIn w) (immJ (fieldsOf w)))) c (lists g (now (h .entry)) (now (x .entry)) s v d) (lists g (now (h .exit)) (now (x .exit)) s v d)) ⌝ }
 {
     let p = offset(h, 21, fields::imm_j(w));
     if p % 4 != 0 {
@@ -115,9 +126,9 @@ pub fn jal(h: &mut [u32; MOVING], x: &mut [u32; SCALARS], w: u32) -> u32
 }
 
 // Bit 0 of the target is cleared first.
-pub fn jalr(h: &mut [u32; MOVING], x: &mut [u32; SCALARS], w: u32) -> u32
+pub fn jalr(h: &mut [u32; MOVING], x: &mut [u32; SCALARS], w: u64) -> u32
     requires { ⌜ length (now h) ≡ movingCount ⌝ }
-    ensures { λ c. ⌜ ((g s v d : List ℕ) → length s ≡ flatCount → Handles (execOf (Instr.Jalr (xOf (fieldsOf w .rd)) (xOf (fieldsOf w .rs1)) (immI (fieldsOf w)))) c (lists g (now (h .entry)) (now (x .entry)) s v d) (lists g (now (h .exit)) (now (x .exit)) s v d)) ⌝ }
+    ensures { λ c. ⌜ ((g s v d : List ℕ) → length s ≡ flatCount → Handles (execOf (Instr.Jalr (xdIn w) (xs1In w) (immI (fieldsOf w)))) c (lists g (now (h .entry)) (now (x .entry)) s v d) (lists g (now (h .exit)) (now (x .exit)) s v d)) ⌝ }
 {
     let a = memory::plain_address(first(x, w), imm_i(w));
     let p = a - a % 2;
@@ -128,9 +139,9 @@ pub fn jalr(h: &mut [u32; MOVING], x: &mut [u32; SCALARS], w: u32) -> u32
     answer::DONE
 }
 
-pub fn branch(h: &mut [u32; MOVING], x: &[u32; SCALARS], w: u32) -> u32
+pub fn branch(h: &mut [u32; MOVING], x: &[u32; SCALARS], w: u64) -> u32
     requires { ⌜ length (now h) ≡ movingCount ⌝ }
-    ensures { λ c. ⌜ ((g s v d : List ℕ) → length s ≡ flatCount → Handles (execOf (Instr.Branch (condOf (fieldsOf w)) (xOf (fieldsOf w .rs1)) (xOf (fieldsOf w .rs2)) (immB (fieldsOf w)))) c (lists g (now (h .entry)) (now (x .entry)) s v d) (lists g (now (h .exit)) (now (x .entry)) s v d)) ⌝ }
+    ensures { λ c. ⌜ ((g s v d : List ℕ) → length s ≡ flatCount → Handles (execOf (Instr.Branch (condOf (fieldsOf w)) (xs1In w) (xs2In w) (immB (fieldsOf w)))) c (lists g (now (h .entry)) (now (x .entry)) s v d) (lists g (now (h .exit)) (now (x .entry)) s v d)) ⌝ }
 {
     if !word::holds(fields::cond(w), first(x, w), second(x, w)) {
         running::next(h);
@@ -144,17 +155,29 @@ pub fn branch(h: &mut [u32; MOVING], x: &[u32; SCALARS], w: u32) -> u32
     answer::DONE
 }
 
-pub fn setrpc(h: &mut [u32; MOVING], x: &mut [u32; SCALARS], w: u32) -> u32
+pub fn setrpc(h: &mut [u32; MOVING], x: &mut [u32; SCALARS], w: u64) -> u32
     requires { ⌜ length (now h) ≡ movingCount ⌝ }
-    ensures { λ c. ⌜ ((g s v d : List ℕ) → length s ≡ flatCount → Handles (execOf (Instr.SetRpc (xOf (fieldsOf w .rd)) (xOf (fieldsOf w .rs1)) (immI (fieldsOf w)))) c (lists g (now (h .entry)) (now (x .entry)) s v d) (lists g (now (h .exit)) (now (x .exit)) s v d)) ⌝ }
+    ensures { λ c. ⌜ ((g s v d : List ℕ) → length s ≡ flatCount → Handles (execOf (Instr.SetRpc (xdIn w) (xs1In w) (immI (fieldsOf w)))) c (lists g (now (h .entry)) (now (x .entry)) s v d) (lists g (now (h .exit)) (now (x .exit)) s v d)) ⌝ }
 {
     running::setrpc(h, x, fields::xd(w), fields::xs1(w), imm_i(w));
     answer::DONE
 }
 
+// By which CSRRS and CSRRC write: the register's number, or the field itself.
+fn csr_source(w: u64) -> u8
+    ensures { λ r. ⌜ r ≡ csrSource w ⌝ }
+{
+    let number = fields::xs1(w).0;
+    let field = fields::rs1(w);
+    if fields::funct3(w) < 4 {
+        return number;
+    }
+    field
+}
+
 // A CSR word's operand: a register's word, or the field itself.
-fn csr_operand(x: &[u32; SCALARS], w: u32) -> u32
-    ensures { λ y. ⌜ y ≡ cond (ltb (fieldsOf w .funct3) 4) (getD (now (x .entry)) (fieldsOf w .rs1) 0) (fieldsOf w .rs1) ⌝ }
+fn csr_operand(x: &[u32; SCALARS], w: u64) -> u32
+    ensures { λ y. ⌜ y ≡ cond (ofRegister w) (getD (now (x .entry)) (xs1In w .0) 0) (fieldsOf w .rs1) ⌝ }
 {
     if fields::funct3(w) < 4 {
         return first(x, w);
@@ -163,8 +186,8 @@ fn csr_operand(x: &[u32; SCALARS], w: u32) -> u32
 }
 
 // There is a CSR of this number, and it is PRINT or RPC or the word doesn't write it.
-fn csr_ok(w: u32) -> bool
-    ensures { λ t. ⌜ t ≡ not (noCsr (csrOpOf (fieldsOf w)) (immI (fieldsOf w)) (fieldsOf w .rs1)) ⌝ }
+fn csr_ok(w: u64) -> bool
+    ensures { λ t. ⌜ t ≡ not (noCsr (csrOpOf (fieldsOf w)) (immI (fieldsOf w)) (csrSource w)) ⌝ }
 {
     let n = imm_i(w);
     if n < 0x800 {
@@ -176,12 +199,12 @@ fn csr_ok(w: u32) -> bool
     if 0x80b <= n {
         return true;
     }
-    !running::csr_writes(fields::csr_op(w), fields::rs1(w))
+    !running::csr_writes(fields::csr_op(w), csr_source(w))
 }
 
-pub fn csr(h: &mut [u32; MOVING], g: &[u32; FIXED], x: &mut [u32; SCALARS], w: u32) -> u32
+pub fn csr(h: &mut [u32; MOVING], g: &[u32; FIXED], x: &mut [u32; SCALARS], w: u64) -> u32
     requires { ⌜ (length (now h) ≡ movingCount) × FixedOk (fixedIn (now g)) ⌝ }
-    ensures { λ c. ⌜ ((s v d : List ℕ) → length s ≡ flatCount → Handles (execOf (anyCsrWord (fieldsOf w))) c (lists (now (g .entry)) (now (h .entry)) (now (x .entry)) s v d) (lists (now (g .entry)) (now (h .exit)) (now (x .exit)) s v d)) ⌝ }
+    ensures { λ c. ⌜ ((s v d : List ℕ) → length s ≡ flatCount → Handles (execOf (csrWide w)) c (lists (now (g .entry)) (now (h .entry)) (now (x .entry)) s v d) (lists (now (g .entry)) (now (h .exit)) (now (x .exit)) s v d)) ⌝ }
 {
     if !csr_ok(w) {
         return answer::BAD_CSR;
@@ -194,7 +217,7 @@ pub fn csr(h: &mut [u32; MOVING], g: &[u32; FIXED], x: &mut [u32; SCALARS], w: u
         fields::csr_op(w),
         imm_i(w),
         fields::xd(w),
-        fields::rs1(w),
+        csr_source(w),
         y,
     );
     answer::DONE
@@ -212,7 +235,7 @@ pub fn end(h: &mut [u32; MOVING]) -> u32
     answer::DONE
 }
 
-pub fn barrier(h: &mut [u32; MOVING], w: u32) -> u32
+pub fn barrier(h: &mut [u32; MOVING], w: u64) -> u32
     requires { ⌜ length (now h) ≡ movingCount ⌝ }
     ensures { λ c. ⌜ ((g x s v d : List ℕ) → length s ≡ flatCount → Handles (execOf (Instr.Barrier (fieldsOf w .rs1))) c (lists g (now (h .entry)) x s v d) (lists g (now (h .exit)) x s v d)) ⌝ }
 {
@@ -240,10 +263,10 @@ pub fn load(
     g: &[u32; FIXED],
     x: &mut [u32; SCALARS],
     d: &[u8],
-    w: u32,
+    w: u64,
 ) -> u32
     requires { ⌜ (length (now h) ≡ movingCount) × MemoryOk (memory (fixedIn (now g) .dataBase) (now d)) ⌝ }
-    ensures { λ c. ⌜ ((s v : List ℕ) → length s ≡ flatCount → Handles (execOf (Instr.Load (loadOpOf (fieldsOf w)) (xOf (fieldsOf w .rd)) (xOf (fieldsOf w .rs1)) (immI (fieldsOf w)))) c (lists (now (g .entry)) (now (h .entry)) (now (x .entry)) s v (now (d .entry))) (lists (now (g .entry)) (now (h .exit)) (now (x .exit)) s v (now (d .entry)))) ⌝ }
+    ensures { λ c. ⌜ ((s v : List ℕ) → length s ≡ flatCount → Handles (execOf (Instr.Load (loadOpOf (fieldsOf w)) (xdIn w) (xs1In w) (immI (fieldsOf w)))) c (lists (now (g .entry)) (now (h .entry)) (now (x .entry)) s v (now (d .entry))) (lists (now (g .entry)) (now (h .exit)) (now (x .exit)) s v (now (d .entry)))) ⌝ }
 {
     let p = memory::plain_address(first(x, w), imm_i(w));
     let found = memory::scalar_load(d, g[DATABASE], fields::load_op(w), p);
@@ -258,10 +281,10 @@ pub fn store(
     g: &[u32; FIXED],
     x: &[u32; SCALARS],
     d: &mut [u8],
-    w: u32,
+    w: u64,
 ) -> u32
     requires { ⌜ (length (now h) ≡ movingCount) × MemoryOk (memory (fixedIn (now g) .dataBase) (now d)) ⌝ }
-    ensures { λ c. ⌜ ((s v : List ℕ) → length s ≡ flatCount → Handles (execOf (Instr.Store (storeOpOf (fieldsOf w)) (xOf (fieldsOf w .rs1)) (xOf (fieldsOf w .rs2)) (immS (fieldsOf w)))) c (lists (now (g .entry)) (now (h .entry)) (now (x .entry)) s v (now (d .entry))) (lists (now (g .entry)) (now (h .exit)) (now (x .entry)) s v (now (d .exit)))) ⌝ }
+    ensures { λ c. ⌜ ((s v : List ℕ) → length s ≡ flatCount → Handles (execOf (Instr.Store (storeOpOf (fieldsOf w)) (xs1In w) (xs2In w) (immS (fieldsOf w)))) c (lists (now (g .entry)) (now (h .entry)) (now (x .entry)) s v (now (d .entry))) (lists (now (g .entry)) (now (h .exit)) (now (x .entry)) s v (now (d .exit)))) ⌝ }
 {
     let p = memory::plain_address(first(x, w), imm_s(w));
     if memory::scalar_store(d, g[DATABASE], fields::store_op(w), p, second(x, w)) {

@@ -1,4 +1,5 @@
-// The instruction of a word, by its kind: for the test program and for whoever lists words. The step reads the fields itself.
+// The instruction of a word, by its kind: for the test program and for whoever lists words. The step reads the fields itself. A number of 64
+// bits is a word with a prefix's digits above it.
 ghost use mathlib.Core.Path.{_≡_};
 ghost use mathlib.Core.List.{_++_};
 ghost use Prim.Native.Nat.{_%_};
@@ -7,7 +8,9 @@ ghost use Rattle.isa.specs.Table.{wordAt};
 ghost use Rattle.isa.specs.Scalar.{immediateAs, shiftAs, opAs};
 ghost use Rattle.isa.specs.Number.{opAt};
 ghost use Rattle.isa.specs.Decode.{decodeOf};
-ghost use Rattle.isa.specs.Kinds.{anyCsrWord, laneOpWord, laneGroups, ofRegisters, ofImmediates, opLimit, instrOf};
+ghost use Rattle.isa.specs.Kinds.{laneOpWord, laneGroups, ofRegisters, ofImmediates, opLimit};
+ghost use Rattle.isa.specs.Prefix.{onFields};
+ghost use Rattle.isa.specs.Wide.{digitsIn, csrWide, wideOf};
 use isa::Instr;
 use isa::Space;
 use isa::VecArgs;
@@ -38,26 +41,26 @@ use isa::fields::xs2;
 use isa::kinds;
 use word::Op;
 
-fn of_registers(op: Op, w: u32) -> Instr
-    ensures { λ r. ⌜ r ≡ opAs op (fieldsOf w) ⌝ }
+fn of_registers(op: Op, w: u64) -> Instr
+    ensures { λ r. ⌜ r ≡ onFields (digitsIn w) (opAs op (fieldsOf w)) ⌝ }
 {
     Instr::OpReg(op, xd(w), xs1(w), xs2(w))
 }
 
-fn of_immediate(op: Op, w: u32) -> Instr
-    ensures { λ r. ⌜ r ≡ immediateAs op (fieldsOf w) ⌝ }
+fn of_immediate(op: Op, w: u64) -> Instr
+    ensures { λ r. ⌜ r ≡ onFields (digitsIn w) (immediateAs op (fieldsOf w)) ⌝ }
 {
     Instr::OpImm(op, xd(w), xs1(w), imm_i(w))
 }
 
-fn shift(op: Op, w: u32) -> Instr
-    ensures { λ r. ⌜ r ≡ shiftAs op (fieldsOf w) ⌝ }
+fn shift(op: Op, w: u64) -> Instr
+    ensures { λ r. ⌜ r ≡ onFields (digitsIn w) (shiftAs op (fieldsOf w)) ⌝ }
 {
     Instr::OpImm(op, xd(w), xs1(w), shift_amount(w))
 }
 
-fn csr(w: u32) -> Instr
-    ensures { λ r. ⌜ r ≡ anyCsrWord (fieldsOf w) ⌝ }
+fn csr(w: u64) -> Instr
+    ensures { λ r. ⌜ r ≡ csrWide w ⌝ }
 {
     if funct3(w) < 0b100 {
         return Instr::Csr(csr_op(w), xd(w), xs1(w), imm_i(w));
@@ -65,8 +68,8 @@ fn csr(w: u32) -> Instr
     Instr::CsrImm(csr_op(w), xd(w), rs1(w), imm_i(w))
 }
 
-fn vector(kind: u32, w: u32) -> Instr
-    ensures { λ r. ⌜ r ≡ laneOpWord (opAt (kind % opLimit)) (fieldsOf w) ⌝ }
+fn vector(kind: u32, w: u64) -> Instr
+    ensures { λ r. ⌜ r ≡ onFields (digitsIn w) (laneOpWord (opAt (kind % opLimit)) (fieldsOf w)) ⌝ }
 {
     let args = VecArgs {
         vd: vd(w),
@@ -76,8 +79,8 @@ fn vector(kind: u32, w: u32) -> Instr
     Instr::Vector(op_at(kind % kinds::OPS), args)
 }
 
-fn immediate_word(kind: u32, w: u32) -> Instr
-    ensures { λ r. ⌜ r ≡ wordAt (fieldsOf w) kind ofImmediates ⌝ }
+fn immediate_word(kind: u32, w: u64) -> Instr
+    ensures { λ r. ⌜ r ≡ onFields (digitsIn w) (wordAt (fieldsOf w) kind ofImmediates) ⌝ }
 {
     match kind {
         kinds::ADDI => of_immediate(Op::Add, w),
@@ -93,8 +96,8 @@ fn immediate_word(kind: u32, w: u32) -> Instr
     }
 }
 
-fn register_word(kind: u32, w: u32) -> Instr
-    ensures { λ r. ⌜ r ≡ wordAt (fieldsOf w) kind (ofRegisters ++ ofImmediates) ⌝ }
+fn register_word(kind: u32, w: u64) -> Instr
+    ensures { λ r. ⌜ r ≡ onFields (digitsIn w) (wordAt (fieldsOf w) kind (ofRegisters ++ ofImmediates)) ⌝ }
 {
     match kind {
         kinds::ADD => of_registers(Op::Add, w),
@@ -119,8 +122,8 @@ fn register_word(kind: u32, w: u32) -> Instr
     }
 }
 
-fn lane_word(kind: u32, w: u32) -> Instr
-    ensures { λ r. ⌜ r ≡ wordAt (fieldsOf w) kind (laneGroups ++ ofRegisters ++ ofImmediates) ⌝ }
+fn lane_word(kind: u32, w: u64) -> Instr
+    ensures { λ r. ⌜ r ≡ onFields (digitsIn w) (wordAt (fieldsOf w) kind (laneGroups ++ ofRegisters ++ ofImmediates)) ⌝ }
 {
     match kind {
         kinds::VBRANCH => Instr::VBranch(cond(w), vs1(w), vs2(w), imm_b(w)),
@@ -148,13 +151,15 @@ fn lane_word(kind: u32, w: u32) -> Instr
         kinds::VMOVE_SX => Instr::VMoveSX(vd(w), xs1(w)),
         kinds::VID => Instr::Vid(vd(w)),
         kinds::VMOVE => Instr::VMove(vd(w), source(w)),
+        kinds::REGEXT => Instr::RegExt(imm_i(w)),
+        kinds::REGEXTI => Instr::RegExtI(imm_i(w)),
         _ => register_word(kind, w),
     }
 }
 
 // One match in four functions, each the last arm of the one before, in the order of the rows in isa/specs/Kinds.antt.
-fn instruction(kind: u32, w: u32) -> Instr
-    ensures { λ r. ⌜ r ≡ instrOf kind w ⌝ }
+fn instruction(kind: u32, w: u64) -> Instr
+    ensures { λ r. ⌜ r ≡ wideOf kind w ⌝ }
 {
     if kinds::VECTOR <= kind {
         return vector(kind, w);
@@ -176,5 +181,5 @@ fn instruction(kind: u32, w: u32) -> Instr
 pub fn decode(w: u32) -> Instr
     ensures { λ r. ⌜ r ≡ decodeOf w ⌝ }
 {
-    instruction(decoder::kind(w), w)
+    instruction(decoder::kind(w), w as u64)
 }

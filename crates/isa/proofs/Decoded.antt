@@ -15,13 +15,13 @@ use Rattle.isa.specs.declared.Source.the-variants as From
 use Rattle.isa.specs.declared.Instr.{Instr}
 use Rattle.isa.specs.declared.Instr.the-variants as I
 use Rattle.isa.specs.Bounds.{fieldLimit}
-use Rattle.isa.specs.Fields.{Fields, x, v, fieldsOf, funct6, vm}
+use Rattle.isa.specs.Fields.{Fields, x, v, fieldsOf, funct6, vm, immI}
 use Rattle.isa.specs.Table.{on, wordAt, asWords, fixed}
 use Rattle.isa.specs.Scalar.{luiWord, auipcWord, jalWord, jumps, jalrWord, conditions, branchAs, branchWord, loads, loadAs, loadWord, stores, storeAs, storeWord, immediates, leftShifts, rightShifts, immediateAs, shiftAs, shiftWord, shifts, opImmWord, base, multiplies, alternates, opAs, byFunct3, ops, opWord, fences, fenceWord, csrOps, csrImmediates, csrAs, csrImmAs, csrWord}
 use Rattle.isa.specs.Vector.{OpForms, vectorTable, multiplyTable, has, vectorAs, moves, plainWord, movesM, multiplyWord, operands, operandsWord, vectorWord}
-use Rattle.isa.specs.Ventus.{vbranchAs, joinWord, joins, splitsWord, endPrgWord, barrierWord, stops, stopWord, vstores, accesses, vloadAs, vstoreAs, laneAccessWord, ploadAs, pstoreAs, privateWord}
+use Rattle.isa.specs.Ventus.{vbranchAs, joinWord, joins, splitsWord, endPrgWord, barrierWord, stops, stopWord, prefixWord, warpWords, warpWord, vstores, accesses, vloadAs, vstoreAs, laneAccessWord, ploadAs, pstoreAs, privateWord}
 use Rattle.isa.specs.Decode.{opcodes, decodeOf}
-use Rattle.isa.specs.Fits.{Range, _under_, _listed_, isIn, fieldOf, shiftOps, vectorOps, rangesOf, holdsAll, fitsOf, AllHold, Fits}
+use Rattle.isa.specs.Fits.{Range, _under_, _listed_, isIn, fieldOf, sourceLimit, shiftOps, vectorOps, rangesOf, holdsAll, fitsOf, AllHold, Fits}
 use Rattle.isa.proofs.Laws.{both-true, Rows, found, rows-append, every-row, rows-tested, fixed-at}
 
 -- the fields are those of a word; funct7 is what is left
@@ -60,11 +60,13 @@ plain-ops : (s : Source) → T (every-row (formedIn s) vectorTable)
 plain-ops (From.V r) = tt
 plain-ops (From.X r) = tt
 plain-ops (From.I n) = tt
+plain-ops (From.Long n) = tt
 
 multiply-ops : (s : Source) → T (every-row (formedIn s) multiplyTable)
 multiply-ops (From.V r) = tt
 multiply-ops (From.X r) = tt
 multiply-ops (From.I n) = tt
+multiply-ops (From.Long n) = tt
 
 where-formed : (i : Instr) (b l : Bool) → T (not b || l) → (T l → Fits i) → Fits (cond b i I.Refused)
 where-formed i true l t f = f t
@@ -165,13 +167,13 @@ module _ (c : Fields) (h : SmallFields c) (top : c .funct7 < 128) where
 
   -- the vector words, by the last operand
   vector-rows :
-      (s : Source) (t : List (Row OpForms)) → fieldOf s < fieldLimit → T (every-row (formedIn s) t)
+      (s : Source) (t : List (Row OpForms)) → fieldOf s < sourceLimit s → T (every-row (formedIn s) t)
       → Rows Fits (on c) (funct6 c) (asWords (vectorAs s) t)
   vector-rows s t z q =
       rows-tested Fits (vectorAs s) (formedIn s) c (funct6 c) t q
       (λ f q. where-formed _ (has s f) (isIn (f .op) (vectorOps s)) q (λ l. (h .rd, (h .rs2, (z, (l, tt))))))
 
-  plain-fits : (s : Source) → fieldOf s < fieldLimit → Fits (plainWord s c)
+  plain-fits : (s : Source) → fieldOf s < sourceLimit s → Fits (plainWord s c)
   unfolding plainWord
   plain-fits s z =
       found Fits (on c) I.Refused (funct6 c) (moves s ++ asWords (vectorAs s) vectorTable) tt
@@ -186,8 +188,9 @@ module _ (c : Fields) (h : SmallFields c) (top : c .funct7 < 128) where
   )
   moves-m-fit (From.X r) = ((λ e. fixed-fits (c .rs2) 0 _ (h .rd, (h .rs1, tt))), tt)
   moves-m-fit (From.I n) = tt
+  moves-m-fit (From.Long n) = tt
 
-  multiply-fits : (s : Source) → fieldOf s < fieldLimit → Fits (multiplyWord s c)
+  multiply-fits : (s : Source) → fieldOf s < sourceLimit s → Fits (multiplyWord s c)
   unfolding multiplyWord
   multiply-fits s z =
       found Fits (on c) I.Refused (funct6 c) (movesM s ++ asWords (vectorAs s) multiplyTable) tt
@@ -235,9 +238,17 @@ module _ (c : Fields) (h : SmallFields c) (top : c .funct7 < 128) where
 
   stop-fits : Fits (stopWord c)
   unfolding stopWord
-  stop-fits =
-      fixed-fits (c .funct3) 0b100 _
-      (found Fits (on c) I.Refused (c .funct7) stops tt ((λ e. end-prg-fits), ((λ e. barrier-fits), tt)))
+  stop-fits = found Fits (on c) I.Refused (c .funct7) stops tt ((λ e. end-prg-fits), ((λ e. barrier-fits), tt))
+
+  prefix-fits : (make : ℕ → Instr) → Fits (make (immI c)) → Fits (prefixWord make c)
+  unfolding prefixWord
+  prefix-fits make f = fixed-fits (c .rs1) 0 _ (fixed-fits (c .rd) 0 (make (immI c)) f)
+
+  warp-fits : Fits (warpWord c)
+  unfolding warpWord
+  warp-fits =
+      found Fits (on c) I.Refused (c .funct3) warpWords tt
+      ((λ e. stop-fits), ((λ e. prefix-fits I.RegExt (omega arith, tt)), ((λ e. prefix-fits I.RegExtI (omega arith, tt)), tt)))
 
   -- loads and stores of lanes, where their offsets fit
   accesses-fit :
@@ -260,9 +271,9 @@ module _ (c : Fields) (h : SmallFields c) (top : c .funct7 < 128) where
       (λ e. accesses-fit ploadAs pstoreAs (λ o. (h .rd, (h .rs1, (omega arith, tt)))) (λ o. (h .rs1, (h .rs2, (omega arith, tt)))))
 
 -- every register and immediate of a decoded word is in its range
-pub decoded : (w : ℕ) → w < 2 ^ 32 → Fits (decodeOf w)
+pub decoded : (w : ℕ) → Fits (decodeOf w)
 unfolding decodeOf
-decoded w b =
+decoded w =
     let c = fieldsOf w in
     let h = small w in
     let t : c .funct7 < 128 = omega arith in
@@ -292,7 +303,7 @@ decoded w b =
                             (λ e. vector-fits c h t),
                             (
                               (λ e. splits-fit c h t),
-                              ((λ e. stop-fits c h t), ((λ e. lane-access-fits c h t), ((λ e. private-fits c h t), tt))),
+                              ((λ e. warp-fits c h t), ((λ e. lane-access-fits c h t), ((λ e. private-fits c h t), tt))),
                             ),
                           ),
                         ),
@@ -307,5 +318,5 @@ decoded w b =
       ),
     )
 
-pub decoded-fits : (w : ℕ) → w < 2 ^ 32 → fitsOf (decodeOf w) ≡ true
-decoded-fits w h = all-hold (rangesOf (decodeOf w)) (decoded w h)
+pub decoded-fits : (w : ℕ) → fitsOf (decodeOf w) ≡ true
+decoded-fits w = all-hold (rangesOf (decodeOf w)) (decoded w)

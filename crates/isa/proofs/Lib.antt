@@ -4,3 +4,4 @@ pub mod Tables
 pub mod Immediates
 pub mod Forms
 pub mod Words
+pub mod Digits

@@ -19,7 +19,7 @@ fieldsOf w =
       funct3 = w / 2 ^ 12 % 2 ^ 3;
       rs1 = w / 2 ^ 15 % 2 ^ 5;
       rs2 = w / 2 ^ 20 % 2 ^ 5;
-      funct7 = w / 2 ^ 25;
+      funct7 = w / 2 ^ 25 % 2 ^ 7;
     }
 
 -- the top six bits, and vm, the bit under them

@@ -13,7 +13,7 @@ use Rattle.isa.specs.declared.Instr.{Instr}
 use Rattle.isa.specs.declared.Instr.the-variants as I
 use Rattle.isa.specs.declared.Space.{Space}
 use Rattle.isa.specs.declared.Space.the-variants.{Plain, Private}
-use Rattle.isa.specs.Bounds.{scalarRegisters, vectorRegisters, fieldLimit}
+use Rattle.isa.specs.Bounds.{fieldLimit}
 use Rattle.isa.specs.Scalar.{immediates, leftShifts, rightShifts, base, multiplies, alternates}
 use Rattle.isa.specs.Vector.{OpForms, has, vectorTable, multiplyTable}
 use Rattle.isa.specs.Number.{number}
@@ -29,16 +29,24 @@ isIn o [] = false
 isIn o (r ∷ rs) = eqb (number o) (number (r .is)) || isIn o rs
 
 abbrev pub xreg : XReg → Range
-xreg r = r .0 under scalarRegisters
+xreg r = r .0 under fieldLimit
 
 abbrev pub vreg : VReg → Range
-vreg r = r .0 under vectorRegisters
+vreg r = r .0 under fieldLimit
 
 -- a vector word's last operand is in the field of rs1, whatever it is
 abbrev pub fieldOf : Source → ℕ
 fieldOf (From.V r) = r .0
 fieldOf (From.X r) = r .0
 fieldOf (From.I n) = n
+fieldOf (From.Long n) = n
+
+-- a five-bit field; no word alone has an immediate of 11 bits
+abbrev pub sourceLimit : Source → ℕ
+sourceLimit (From.V r) = fieldLimit
+sourceLimit (From.X r) = fieldLimit
+sourceLimit (From.I n) = fieldLimit
+sourceLimit (From.Long n) = 0
 
 abbrev pub even : ℕ → Range
 even n = n % 2 under 1
@@ -81,8 +89,8 @@ rangesOf (I.OpReg o d a b) = xreg d ∷ xreg a ∷ xreg b ∷ o listed (base ++ 
 rangesOf (I.Fence d a n) = d under fieldLimit ∷ a under fieldLimit ∷ n under 2 ^ 12 ∷ []
 rangesOf (I.Csr o d a n) = xreg d ∷ xreg a ∷ n under 2 ^ 12 ∷ []
 rangesOf (I.CsrImm o d a n) = xreg d ∷ a under fieldLimit ∷ n under 2 ^ 12 ∷ []
-rangesOf (I.Vector o a) = vreg (a .vd) ∷ vreg (a .vs2) ∷ fieldOf (a .src) under fieldLimit ∷ o listed vectorOps (a .src) ∷ []
-rangesOf (I.VMove d s) = vreg d ∷ fieldOf s under fieldLimit ∷ []
+rangesOf (I.Vector o a) = vreg (a .vd) ∷ vreg (a .vs2) ∷ fieldOf (a .src) under sourceLimit (a .src) ∷ o listed vectorOps (a .src) ∷ []
+rangesOf (I.VMove d s) = vreg d ∷ fieldOf s under sourceLimit s ∷ []
 rangesOf (I.VMoveXS d b) = xreg d ∷ vreg b ∷ []
 rangesOf (I.VMoveSX d a) = vreg d ∷ xreg a ∷ []
 rangesOf (I.Vid d) = vreg d ∷ []
@@ -93,6 +101,8 @@ rangesOf I.EndPrg = []
 rangesOf (I.Barrier n) = n under fieldLimit ∷ []
 rangesOf (I.VLoad s o d a n) = vreg d ∷ vreg a ∷ offset s n ∷ []
 rangesOf (I.VStore s o a b n) = vreg a ∷ vreg b ∷ offset s n ∷ []
+rangesOf (I.RegExt n) = n under 2 ^ 12 ∷ []
+rangesOf (I.RegExtI n) = n under 2 ^ 12 ∷ []
 
 abbrev pub holdsAll : List Range → Bool
 holdsAll [] = true
@@ -103,7 +113,7 @@ holdsAll (o listed t ∷ rs) = isIn o t && holdsAll rs
 abbrev pub fitsOf : Instr → Bool
 fitsOf i = holdsAll (rangesOf i)
 
--- the facts: of `Lui d n`, (d .0 < scalarRegisters) × ((n < 2 ^ 20) × Unit)
+-- the facts: of `Lui d n`, (d .0 < fieldLimit) × ((n < 2 ^ 20) × Unit)
 abbrev pub AllHold : List Range → Type 0
 AllHold [] = Unit {0}
 AllHold (n under k ∷ rs) = (n < k) × AllHold rs

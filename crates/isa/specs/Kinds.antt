@@ -65,7 +65,8 @@ laneGroups =
     ∷ 14 ⇒ (λ c. ploadAs (loadOpOf c) c) ∷ 15 ⇒ (λ c. pstoreAs (laneStoreOpOf c) c)
     ∷ 43 ⇒ (λ c. I.Join) ∷ 44 ⇒ (λ c. I.EndPrg) ∷ 45 ⇒ (λ c. I.Barrier (c .rs1))
     ∷ 46 ⇒ (λ c. I.VMoveXS (x (c .rd)) (v (c .rs2))) ∷ 47 ⇒ (λ c. I.VMoveSX (v (c .rd)) (x (c .rs1)))
-    ∷ 48 ⇒ (λ c. I.Vid (v (c .rd))) ∷ 49 ⇒ (λ c. I.VMove (v (c .rd)) (sourceIn c)) ∷ []
+    ∷ 48 ⇒ (λ c. I.Vid (v (c .rd))) ∷ 49 ⇒ (λ c. I.VMove (v (c .rd)) (sourceIn c))
+    ∷ 50 ⇒ (λ c. I.RegExt (immI c)) ∷ 51 ⇒ (λ c. I.RegExtI (immI c)) ∷ []
 
 abbrev pub groups : Words
 groups = scalarGroups ++ laneGroups

@@ -8,3 +8,5 @@ pub mod Decode
 pub mod Number
 pub mod Kinds
 pub mod Fits
+pub mod Prefix
+pub mod Wide

@@ -50,6 +50,7 @@ abbrev pub has : Source → OpForms → Bool
 has (From.V r) f = f .vv
 has (From.X r) f = f .vx
 has (From.I n) f = f .vi
+has (From.Long n) f = false
 
 abbrev pub vectorAs : Source → OpForms → Fields → Instr
 vectorAs s f c =
@@ -79,6 +80,7 @@ abbrev pub movesM : Source → Words
 movesM (From.V r) = 0b010000 ⇒ moveXSWord ∷ 0b010100 ⇒ vidWord ∷ []
 movesM (From.X r) = 0b010000 ⇒ moveSXWord ∷ []
 movesM (From.I n) = []
+movesM (From.Long n) = []
 
 unfoldable pub multiplyWord : Source → Fields → Instr
 multiplyWord s c = wordAt c (funct6 c) (movesM s ++ asWords (vectorAs s) multiplyTable)

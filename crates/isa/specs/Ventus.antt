@@ -1,5 +1,5 @@
--- The Ventus words: VBRANCH, JOIN, SETRPC, ENDPRG, BARRIER, VLOAD12 and VSTORE12, private loads and stores.
-use Prim.Native.Nat.{_/_, _^_}
+-- The Ventus words: VBRANCH, JOIN, SETRPC, ENDPRG, BARRIER, REGEXT and REGEXTI, VLOAD12 and VSTORE12, private loads and stores.
+use Prim.Native.Nat.{ℕ, _/_, _^_}
 use mathlib.Core.List.{List, [], _∷_, _++_}
 use Rattle.answer.specs.Rows.{Row, _⇒_}
 use Rattle.word.specs.declared.Cond.{Cond}
@@ -30,7 +30,7 @@ joins = 0b010 ⇒ joinWord ∷ 0b011 ⇒ setRpcAs ∷ []
 unfoldable pub splitsWord : Fields → Instr
 splitsWord c = wordAt c (c .funct3) (asWords vbranchAs conditions ++ joins)
 
--- 0001011, funct3 100, by funct7: ENDPRG; BARRIER, bits 19 to 15 free; other fields 0
+-- 0001011, by funct3. 100, by funct7: ENDPRG; BARRIER, bits 19 to 15 free; other fields 0
 unfoldable pub endPrgWord : Fields → Instr
 endPrgWord c = fixed (c .rs2) 0 (fixed (c .rs1) 0 (fixed (c .rd) 0 I.EndPrg))
 
@@ -41,7 +41,17 @@ abbrev pub stops : Words
 stops = 0b0000000 ⇒ endPrgWord ∷ 0b0000010 ⇒ barrierWord ∷ []
 
 unfoldable pub stopWord : Fields → Instr
-stopWord c = fixed (c .funct3) 0b100 (wordAt c (c .funct7) stops)
+stopWord c = wordAt c (c .funct7) stops
+
+-- 010 REGEXT, 011 REGEXTI: the fields of rs1 and rd 0
+unfoldable pub prefixWord : (ℕ → Instr) → Fields → Instr
+prefixWord make c = fixed (c .rs1) 0 (fixed (c .rd) 0 (make (immI c)))
+
+abbrev pub warpWords : Words
+warpWords = 0b100 ⇒ stopWord ∷ 0b010 ⇒ prefixWord I.RegExt ∷ 0b011 ⇒ prefixWord I.RegExtI ∷ []
+
+unfoldable pub warpWord : Fields → Instr
+warpWord c = wordAt c (c .funct3) warpWords
 
 -- VLOAD12 and VSTORE12, by funct3
 abbrev pub vstores : List (Row StoreOp)

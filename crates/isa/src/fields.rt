@@ -1,11 +1,14 @@
-// A word's fields, read from the word: what each is, and what it stays under.
+// A word's fields, read from the word: what each is, and what it stays under. Above the word stand the digits of the prefix before it, 0 where
+// there is none (specs/Wide.antt).
 ghost use mathlib.Core.Path.{_≡_};
 ghost use Prim.Native.Nat.{_<_, _^_};
 ghost use Rattle.isa.specs.Bounds.{scalarRegisters, vectorRegisters, fieldLimit};
-ghost use Rattle.isa.specs.Fields.{fieldsOf, x as xOf, v as vOf, immI, immS, immB, immU, immJ};
+ghost use Rattle.isa.specs.Fields.{fieldsOf, immI, immS, immB, immU, immJ};
 ghost use Rattle.isa.specs.Fields.{privateLoadOffset, privateStoreOffset};
 ghost use Rattle.isa.specs.Number.{opAt};
 ghost use Rattle.isa.specs.Kinds.{condOf, loadOpOf, storeOpOf, laneStoreOpOf, csrOpOf, sourceIn};
+ghost use Rattle.isa.specs.Prefix.{onSource};
+ghost use Rattle.isa.specs.Wide.{isLong, longIn, digitsIn, xdIn, xs1In, xs2In, vdIn, vs1In, vs2In};
 use crate::CsrOp;
 use crate::LoadOp;
 use crate::Source;
@@ -15,126 +18,140 @@ use crate::XReg;
 use word::Cond;
 use word::Op;
 
-pub fn funct3(w: u32) -> u32
+pub fn funct3(w: u64) -> u32
     ensures { λ r. ⌜ (r ≡ fieldsOf w .funct3) × (r < 2 ^ 3) ⌝ }
 {
-    w / 4096 % 8
+    (w / 4096 % 8) as u32
 }
 
 // ---- a field of five bits as it is
 
-pub fn rd(w: u32) -> u8
+pub fn rd(w: u64) -> u8
     ensures { λ r. ⌜ (r ≡ fieldsOf w .rd) × (r < fieldLimit) ⌝ }
 {
     (w / 128 % 32) as u8
 }
 
-pub fn rs1(w: u32) -> u8
+pub fn rs1(w: u64) -> u8
     ensures { λ r. ⌜ (r ≡ fieldsOf w .rs1) × (r < fieldLimit) ⌝ }
 {
     (w / 32768 % 32) as u8
 }
 
 // In the place of rs2.
-pub fn shift_amount(w: u32) -> u16
+pub fn shift_amount(w: u64) -> u16
     ensures { λ r. ⌜ (r ≡ fieldsOf w .rs2) × (r < fieldLimit) ⌝ }
 {
     (w / 1048576 % 32) as u16
 }
 
+// ---- a VI form behind REGEXTI
+
+pub fn long(w: u64) -> bool
+    ensures { λ r. ⌜ r ≡ isLong w ⌝ }
+{
+    w / 1125899906842624 % 2 == 1
+}
+
+pub fn long_immediate(w: u64) -> u16
+    ensures { λ r. ⌜ (r ≡ longIn w (fieldsOf w .rs1)) × (r < 2 ^ 11) ⌝ }
+{
+    (w / 17592186044416 % 64 * 32 + w / 32768 % 32) as u16
+}
+
 // ---- registers
 
-pub fn xd(w: u32) -> XReg
-    ensures { λ r. ⌜ (r ≡ xOf (fieldsOf w .rd)) × (r .0 < scalarRegisters) ⌝ }
+pub fn xd(w: u64) -> XReg
+    ensures { λ r. ⌜ (r ≡ xdIn w) × (r .0 < scalarRegisters) ⌝ }
 {
-    XReg((w / 128 % 32) as u8)
+    XReg((w / 4294967296 % 2 * 32 + w / 128 % 32) as u8)
 }
 
-pub fn xs1(w: u32) -> XReg
-    ensures { λ r. ⌜ (r ≡ xOf (fieldsOf w .rs1)) × (r .0 < scalarRegisters) ⌝ }
+pub fn xs1(w: u64) -> XReg
+    ensures { λ r. ⌜ (r ≡ xs1In w) × (r .0 < scalarRegisters) ⌝ }
 {
-    XReg((w / 32768 % 32) as u8)
+    XReg((w / 34359738368 % 2 * 32 + w / 32768 % 32) as u8)
 }
 
-pub fn xs2(w: u32) -> XReg
-    ensures { λ r. ⌜ (r ≡ xOf (fieldsOf w .rs2)) × (r .0 < scalarRegisters) ⌝ }
+pub fn xs2(w: u64) -> XReg
+    ensures { λ r. ⌜ (r ≡ xs2In w) × (r .0 < scalarRegisters) ⌝ }
 {
-    XReg((w / 1048576 % 32) as u8)
+    XReg((w / 274877906944 % 2 * 32 + w / 1048576 % 32) as u8)
 }
 
-pub fn vd(w: u32) -> VReg
-    ensures { λ r. ⌜ (r ≡ vOf (fieldsOf w .rd)) × (r .0 < vectorRegisters) ⌝ }
+pub fn vd(w: u64) -> VReg
+    ensures { λ r. ⌜ (r ≡ vdIn w) × (r .0 < vectorRegisters) ⌝ }
 {
-    VReg((w / 128 % 32) as u8)
+    VReg((w / 4294967296 % 8 * 32 + w / 128 % 32) as u8)
 }
 
-pub fn vs1(w: u32) -> VReg
-    ensures { λ r. ⌜ (r ≡ vOf (fieldsOf w .rs1)) × (r .0 < vectorRegisters) ⌝ }
+pub fn vs1(w: u64) -> VReg
+    ensures { λ r. ⌜ (r ≡ vs1In w) × (r .0 < vectorRegisters) ⌝ }
 {
-    VReg((w / 32768 % 32) as u8)
+    VReg((w / 34359738368 % 8 * 32 + w / 32768 % 32) as u8)
 }
 
-pub fn vs2(w: u32) -> VReg
-    ensures { λ r. ⌜ (r ≡ vOf (fieldsOf w .rs2)) × (r .0 < vectorRegisters) ⌝ }
+pub fn vs2(w: u64) -> VReg
+    ensures { λ r. ⌜ (r ≡ vs2In w) × (r .0 < vectorRegisters) ⌝ }
 {
-    VReg((w / 1048576 % 32) as u8)
+    VReg((w / 274877906944 % 8 * 32 + w / 1048576 % 32) as u8)
 }
 
 // ---- immediates, with the definition's own divisions
 
-pub fn imm_i(w: u32) -> u16
+pub fn imm_i(w: u64) -> u16
     ensures { λ r. ⌜ (r ≡ immI (fieldsOf w)) × (r < 2 ^ 12) ⌝ }
 {
-    (w / 1048576) as u16
+    (w / 1048576 % 4096) as u16
 }
 
-pub fn imm_s(w: u32) -> u16
+pub fn imm_s(w: u64) -> u16
     ensures { λ r. ⌜ (r ≡ immS (fieldsOf w)) × (r < 2 ^ 12) ⌝ }
 {
-    (w / 33554432 * 32 + w / 128 % 32) as u16
+    (w / 33554432 % 128 * 32 + w / 128 % 32) as u16
 }
 
-pub fn private_load_offset(w: u32) -> u16
+pub fn private_load_offset(w: u64) -> u16
     ensures { λ r. ⌜ (r ≡ privateLoadOffset (fieldsOf w)) × (r < 2 ^ 11) ⌝ }
 {
-    (w / 33554432 % 64 * 32 + w / 1048576 % 32) as u16
+    (w / 33554432 % 128 % 64 * 32 + w / 1048576 % 32) as u16
 }
 
-pub fn private_store_offset(w: u32) -> u16
+pub fn private_store_offset(w: u64) -> u16
     ensures { λ r. ⌜ (r ≡ privateStoreOffset (fieldsOf w)) × (r < 2 ^ 11) ⌝ }
 {
-    (w / 33554432 % 64 * 32 + w / 128 % 32) as u16
+    (w / 33554432 % 128 % 64 * 32 + w / 128 % 32) as u16
 }
 
-pub fn imm_b(w: u32) -> u16
+pub fn imm_b(w: u64) -> u16
     ensures { λ r. ⌜ (r ≡ immB (fieldsOf w)) × (r < 2 ^ 13) ⌝ }
 {
-    (w / 33554432 / 64 * 4096
+    (w / 33554432 % 128 / 64 * 4096
         + w / 128 % 32 % 2 * 2048
-        + w / 33554432 % 64 * 32
+        + w / 33554432 % 128 % 64 * 32
         + w / 128 % 32 / 2 * 2) as u16
 }
 
-pub fn imm_u(w: u32) -> u32
+pub fn imm_u(w: u64) -> u32
     ensures { λ r. ⌜ (r ≡ immU (fieldsOf w)) × (r < 2 ^ 20) ⌝ }
 {
-    w / 4096
+    (w / 4096 % 1048576) as u32
 }
 
-pub fn imm_j(w: u32) -> u32
+pub fn imm_j(w: u64) -> u32
     ensures { λ r. ⌜ (r ≡ immJ (fieldsOf w)) × (r < 2 ^ 21) ⌝ }
 {
-    w / 33554432 / 64 * 1048576
+    (w / 33554432 % 128 / 64 * 1048576
         + w / 32768 % 32 * 32768
         + w / 4096 % 8 * 4096
         + w / 1048576 % 32 % 2 * 2048
-        + w / 33554432 % 64 * 32
-        + w / 1048576 % 32 / 2 * 2
+        + w / 33554432 % 128 % 64 * 32
+        + w / 1048576 % 32 / 2 * 2) as u32
 }
 
 // ---- what funct3 says within a kind
 
-pub fn cond(w: u32) -> Cond
+pub fn cond(w: u64) -> Cond
     ensures { λ r. ⌜ r ≡ condOf (fieldsOf w) ⌝ }
 {
     let funct3 = w / 4096 % 8;
@@ -148,7 +165,7 @@ pub fn cond(w: u32) -> Cond
     }
 }
 
-pub fn load_op(w: u32) -> LoadOp
+pub fn load_op(w: u64) -> LoadOp
     ensures { λ r. ⌜ r ≡ loadOpOf (fieldsOf w) ⌝ }
 {
     let funct3 = w / 4096 % 8;
@@ -161,7 +178,7 @@ pub fn load_op(w: u32) -> LoadOp
     }
 }
 
-pub fn store_op(w: u32) -> StoreOp
+pub fn store_op(w: u64) -> StoreOp
     ensures { λ r. ⌜ r ≡ storeOpOf (fieldsOf w) ⌝ }
 {
     let funct3 = w / 4096 % 8;
@@ -172,7 +189,7 @@ pub fn store_op(w: u32) -> StoreOp
     }
 }
 
-pub fn lane_store_op(w: u32) -> StoreOp
+pub fn lane_store_op(w: u64) -> StoreOp
     ensures { λ r. ⌜ r ≡ laneStoreOpOf (fieldsOf w) ⌝ }
 {
     let funct3 = w / 4096 % 8;
@@ -183,7 +200,7 @@ pub fn lane_store_op(w: u32) -> StoreOp
     }
 }
 
-pub fn csr_op(w: u32) -> CsrOp
+pub fn csr_op(w: u64) -> CsrOp
     ensures { λ r. ⌜ r ≡ csrOpOf (fieldsOf w) ⌝ }
 {
     let funct3 = w / 4096 % 8;
@@ -196,15 +213,24 @@ pub fn csr_op(w: u32) -> CsrOp
     }
 }
 
+fn immediate(w: u64) -> Source
+    ensures { λ r. ⌜ r ≡ digitsIn w .imm (fieldsOf w .rs1) ⌝ }
+{
+    if long(w) {
+        return Source::Long(long_immediate(w));
+    }
+    Source::I(rs1(w))
+}
+
 // A vector word's last operand.
-pub fn source(w: u32) -> Source
-    ensures { λ r. ⌜ r ≡ sourceIn (fieldsOf w) ⌝ }
+pub fn source(w: u64) -> Source
+    ensures { λ r. ⌜ r ≡ onSource (digitsIn w) (sourceIn (fieldsOf w)) ⌝ }
 {
     let funct3 = w / 4096 % 8;
     match funct3 {
         0b000 => Source::V(vs1(w)),
         0b010 => Source::V(vs1(w)),
-        0b011 => Source::I(rs1(w)),
+        0b011 => immediate(w),
         _ => Source::X(xs1(w)),
     }
 }

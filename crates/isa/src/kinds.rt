@@ -100,6 +100,10 @@ pub const VID: u32 = 48;
 
 pub const VMOVE: u32 = 49;
 
+pub const REGEXT: u32 = 50;
+
+pub const REGEXTI: u32 = 51;
+
 // From VECTOR on: VECTOR + the op's number, which is under OPS, whatever the last operand is.
 pub const VECTOR: u32 = 128;
 

@@ -30,17 +30,24 @@ pub enum CsrOp {
     Rc,
 }
 
-// A vector word's last operand; which it is, is the word's form: VV, VX or VI.
+// A vector word's last operand; which it is, is the word's form: VV, VX or VI. A VI form's immediate has 5 bits, behind REGEXTI 11 (Long).
 pub enum Source {
     V(VReg),
     X(XReg),
     I(u8),
+    Long(u16),
 }
 
 pub struct VecArgs {
     pub vd: VReg,
     pub vs2: VReg,
     pub src: Source,
+}
+
+// A pending prefix: its kind, 0 where none is pending, 1 REGEXT, 2 REGEXTI, and its 12 bits.
+pub struct Prefix {
+    pub kind: u32,
+    pub bits: u32,
 }
 
 // What an access by lanes reads or writes: data, or each thread's private part of it.
@@ -76,4 +83,6 @@ pub enum Instr {
     Barrier(u8),
     VLoad(Space, LoadOp, VReg, VReg, u16),
     VStore(Space, StoreOp, VReg, VReg, u16),
+    RegExt(u16),
+    RegExtI(u16),
 }

@@ -14,7 +14,8 @@ use Rattle.isa.specs.declared.LoadOp.{LoadOp}
 use Rattle.isa.specs.declared.StoreOp.{StoreOp}
 use Rattle.isa.specs.declared.VReg.{VReg}
 use Rattle.isa.specs.declared.Space.{Space}
-use Rattle.isa.specs.Fields.{Fields, fieldsOf, v as vOf}
+use Rattle.isa.specs.Fields.{Fields, fieldsOf}
+use Rattle.isa.specs.Wide.{vdIn, vs1In, vs2In}
 use Rattle.isa.specs.Kinds.{loadOpOf, laneStoreOpOf}
 use Rattle.lanes.specs.declared.Lane.{Lane}
 use Rattle.lanes.specs.Mask.{bit}
@@ -49,7 +50,7 @@ lanes-fit r e = (omega (arith, e, r .fixed .lanes .1), rw e (r .below))
 -- ---- accesses
 
 -- the code's threads n, register b and launch values p are those of the word and the fixed words, so the callees' contracts speak of these
-module _ (s : Space) (off w : ℕ) (g v : List ℕ) {n : ℕ} {b : VReg} (en : n ≡ fixedIn g .numt) (eb : b ≡ vOf (fieldsOf w .rs1)) where
+module _ (s : Space) (off w : ℕ) (g v : List ℕ) {n : ℕ} {b : VReg} (en : n ≡ fixedIn g .numt) (eb : b ≡ vs1In w) where
   pub words-told : (mask size : ℕ) → allInWord n (bit mask) s size (laneOf v b) off ≡ inWords s size off mask w g v
   words-told mask size = rw (en, eb)
 
@@ -60,7 +61,7 @@ module _ (s : Space) (off w : ℕ) (g v : List ℕ) {n : ℕ} {b : VReg} (en : n
 module _ (s : Space) (size off mask w : ℕ) (g v d : List ℕ) {z : ℕ} {t : Bool} (ez : z ≡ size) (q : t ≡ not (inWords s z off mask w g v)) where
   pub crossed : t ≡ true → Tested 14 s size off mask w g v d
   unfolding warpOf
-  crossed e h x r eh = sym (crosses-first s size (vOf (fieldsOf w .rs1)) off (state (warpOf g h x r) v d) (rw (eh, ← ez) (sym q ∙ e)))
+  crossed e h x r eh = sym (crosses-first s size (vs1In w) off (state (warpOf g h x r) v d) (rw (eh, ← ez) (sym q ∙ e)))
 
   pub not-crossed : t ≡ false → inWords s size off mask w g v ≡ true
   not-crossed e = rw (← ez) (not-false (inWords s z off mask w g v) (sym q ∙ e))
@@ -84,12 +85,12 @@ module _ (s : Space) (off mask w : ℕ) (g v d o : List ℕ) (t : Bool) {n c : �
   nine : (size : ℕ) → inWords s size off mask w g v ≡ true → t ≡ allInside n (bit mask) Data size (at o) → Tested c s size off mask w g v d
   unfolding warpOf
   nine size e q h x y eh =
-      let a = vOf (fieldsOf w .rs1) in
+      let a = vs1In w in
       let M = state (warpOf g h x y) v d in
       let inside : t ≡ allInside (fixedIn g .numt) (bit (maskIn h)) Data size At = rw eh (rw en at (q ∙ inside-only n (bit mask) Data (at o) At there size)) in
       m ∙ ap (λ (b : Bool). first (9 ⇒ not b ∷ [])) inside ∙ sym (crosses-not s size a off M (rw (eh, e)))
 
-  pub loaded-row : {k : LoadOp} {rd : VReg} {v' : List ℕ} → k ≡ loadOpOf (fieldsOf w) → rd ≡ vOf (fieldsOf w .rd) → inWords s (sizeOf k) off mask w g v ≡ true
+  pub loaded-row : {k : LoadOp} {rd : VReg} {v' : List ℕ} → k ≡ loadOpOf (fieldsOf w) → rd ≡ vdIn w → inWords s (sizeOf k) off mask w g v ≡ true
       → (t ≡ allInside n (bit mask) Data (sizeOf k) (at o)) × (v' ≡ cond t (writeLanes n (bit mask) rd (λ l. loadOf k Data (at o l)) v) v) → LaneLoad c s off mask w g v d v'
   loaded-row {k} {rd} ek ed e q =
       record {
@@ -97,7 +98,7 @@ module _ (s : Space) (off mask w : ℕ) (g v d o : List ℕ) (t : Bool) {n c : �
         file = made-so t c _ v _ m (rw (en, ek, ed) at (q .1 ∙ ap (λ (u : List ℕ). cond t u v) (load-only n (bit mask) Data (at o) At there k rd v)));
       }
 
-  pub stored-row : {k : StoreOp} {rs : VReg} {d' : List ℕ} → k ≡ laneStoreOpOf (fieldsOf w) → rs ≡ vOf (fieldsOf w .rs2) → inWords s (widthOf k) off mask w g v ≡ true
+  pub stored-row : {k : StoreOp} {rs : VReg} {d' : List ℕ} → k ≡ laneStoreOpOf (fieldsOf w) → rs ≡ vs2In w → inWords s (widthOf k) off mask w g v ≡ true
       → (t ≡ allInside n (bit mask) Data (widthOf k) (at o)) × (d' ≡ cond t (storeLanes n (bit mask) k (at o) (laneOf v rs) Data) d) → LaneStore c s off mask w g v d d'
   stored-row {k} {rs} ek es e q =
       record {
@@ -121,17 +122,17 @@ module _ (a : ℕ) (s : Space) (off w c : ℕ) (g h x r v d h' : List ℕ) (z : 
   F = fieldsOf w
 
   pub lane-load-arm : (v' : List ℕ) → LaneLoad a s off (maskIn h) w g v d v'
-      → Handles (execOf (I.VLoad s (loadOpOf F) (vOf (F .rd)) (vOf (F .rs1)) off)) c (lists g h x r v d) (lists g h' x r v' d)
+      → Handles (execOf (I.VLoad s (loadOpOf F) (vdIn w) (vs1In w) off)) c (lists g h x r v d) (lists g h' x r v' d)
   unfolding warpOf effectOf refusalsOf
   lane-load-arm v' q =
-      let i = I.VLoad s (loadOpOf F) (vOf (F .rd)) (vOf (F .rs1)) off in
+      let i = I.VLoad s (loadOpOf F) (vdIn w) (vs1In w) off in
       lane-arm i (λ h v. lists g h x r v d) c h h' _ v v' z n a (q .code h x r refl) o (q .file)
-      (λ e. file-written i g h x r v d (nextIn h) z n refl e (bit (maskIn h)) (vOf (F .rd)) _ _ refl refl)
+      (λ e. file-written i g h x r v d (nextIn h) z n refl e (bit (maskIn h)) (vdIn w) _ _ refl refl)
 
   pub lane-store-arm : (d' : List ℕ) → LaneStore a s off (maskIn h) w g v d d'
-      → Handles (execOf (I.VStore s (laneStoreOpOf F) (vOf (F .rs1)) (vOf (F .rs2)) off)) c (lists g h x r v d) (lists g h' x r v d')
+      → Handles (execOf (I.VStore s (laneStoreOpOf F) (vs1In w) (vs2In w) off)) c (lists g h x r v d) (lists g h' x r v d')
   unfolding warpOf effectOf refusalsOf
   lane-store-arm d' q =
-      let i = I.VStore s (laneStoreOpOf F) (vOf (F .rs1)) (vOf (F .rs2)) off in
+      let i = I.VStore s (laneStoreOpOf F) (vs1In w) (vs2In w) off in
       lane-arm i (λ h d. lists g h x r v d) c h h' _ d d' z n a (q .code h x r refl) o (q .bytes)
       (λ e. data-stored i g h x r v d (nextIn h) z n refl e _ refl)

@@ -7,7 +7,8 @@ use lib.Dec.{eqb}
 use lib.ListN.{length}
 use Rattle.answer.specs.Rows.{first}
 use Rattle.isa.specs.declared.Space.{Space}
-use Rattle.isa.specs.Fields.{fieldsOf, v as vOf}
+use Rattle.isa.specs.Fields.{fieldsOf}
+use Rattle.isa.specs.Wide.{vdIn, vs1In, vs2In}
 use Rattle.isa.specs.Kinds.{loadOpOf, laneStoreOpOf}
 use Rattle.lanes.specs.declared.Lane.{Lane}
 use Rattle.lanes.specs.Mask.{bit}
@@ -36,20 +37,20 @@ pub record Lanes (g h v : List ℕ) : Type 0 where
 
 -- the address of lane l's access by the word w
 abbrev pub addressAt : Space → ℕ → ℕ → List ℕ → List ℕ → Lane → ℕ
-addressAt s off w g v = laneAddress s (privateIn (fixedIn g)) v (vOf (fieldsOf w .rs1)) off
+addressAt s off w g v = laneAddress s (privateIn (fixedIn g)) v (vs1In w) off
 
 -- no active lane's access of n bytes crosses a word boundary
 abbrev pub inWords : Space → ℕ → ℕ → ℕ → ℕ → List ℕ → List ℕ → Bool
-inWords s n off mask w g v = allInWord (fixedIn g .numt) (bit mask) s n (laneOf v (vOf (fieldsOf w .rs1))) off
+inWords s n off mask w g v = allInWord (fixedIn g .numt) (bit mask) s n (laneOf v (vs1In w)) off
 
 -- c is the number of the definition's tests of an access of n bytes, whatever the warp is beside its fixed values and its mask
 abbrev pub Tested : ℕ → Space → ℕ → ℕ → ℕ → ℕ → List ℕ → List ℕ → List ℕ → Type 0
-Tested c s n off mask w g v d = (h x r : List ℕ) → maskIn h ≡ mask → c ≡ first (accessTests s n (vOf (fieldsOf w .rs1)) off (state (warpOf g h x r) v d))
+Tested c s n off mask w g v d = (h x r : List ℕ) → maskIn h ≡ mask → c ≡ first (accessTests s n (vs1In w) off (state (warpOf g h x r) v d))
 
 pub record LaneLoad (c : ℕ) (s : Space) (off mask w : ℕ) (g v d v' : List ℕ) : Type 0 where
   pub code : Tested c s (sizeOf (loadOpOf (fieldsOf w))) off mask w g v d
-  pub file : v' ≡ cond (eqb c 0) (writeLanes (fixedIn g .numt) (bit mask) (vOf (fieldsOf w .rd)) (λ l. loadOf (loadOpOf (fieldsOf w)) (memory (fixedIn g .dataBase) d) (addressAt s off w g v l)) v) v
+  pub file : v' ≡ cond (eqb c 0) (writeLanes (fixedIn g .numt) (bit mask) (vdIn w) (λ l. loadOf (loadOpOf (fieldsOf w)) (memory (fixedIn g .dataBase) d) (addressAt s off w g v l)) v) v
 
 pub record LaneStore (c : ℕ) (s : Space) (off mask w : ℕ) (g v d d' : List ℕ) : Type 0 where
   pub code : Tested c s (widthOf (laneStoreOpOf (fieldsOf w))) off mask w g v d
-  pub bytes : d' ≡ cond (eqb c 0) (storeLanes (fixedIn g .numt) (bit mask) (laneStoreOpOf (fieldsOf w)) (addressAt s off w g v) (laneOf v (vOf (fieldsOf w .rs2))) (memory (fixedIn g .dataBase) d)) d
+  pub bytes : d' ≡ cond (eqb c 0) (storeLanes (fixedIn g .numt) (bit mask) (laneStoreOpOf (fieldsOf w)) (addressAt s off w g v) (laneOf v (vs2In w)) (memory (fixedIn g .dataBase) d)) d

@@ -27,7 +27,9 @@ ghost use lib.Dec.{eqb};
 ghost use lib.ListN.{length};
 ghost use Rattle.answer.specs.Rows.{_⇒_, first};
 ghost use Rattle.word.specs.Word.{extendOf};
-ghost use Rattle.isa.specs.Fields.{fieldsOf, x as xOf, v as vOf, immB};
+ghost use Rattle.isa.specs.Fields.{fieldsOf, immB};
+ghost use Rattle.isa.specs.Prefix.{onSource, onFields};
+ghost use Rattle.isa.specs.Wide.{isLong, longIn, digitsIn, xdIn, xs1In, vdIn, vs1In, vs2In};
 ghost use Rattle.isa.specs.Number.{opAt};
 ghost use Rattle.isa.specs.Kinds.{condOf, laneOpWord, opLimit};
 ghost use Rattle.isa.specs.Kinds.{sourceIn};
@@ -46,15 +48,25 @@ ghost use Rattle.lane_handlers.specs.Lanes.{LanesAt, Lanes, addressAt, i
 
 // ---- what a handler reads
 
+// A VI form's immediate, sign-extended: of 5 bits, behind REGEXTI of 11.
+fn vi_immediate(w: u64) -> u32
+    ensures { λ y. ⌜ y ≡ cond (isLong w) (extendOf 11 (longIn w (fieldsOf w .rs1))) (extendOf 5 (fieldsOf w .rs1)) ⌝ }
+{
+    if fields::long(w) {
+        return word::extend(11, fields::long_immediate(w) as u32);
+    }
+    word::extend(5, fields::rs1(w) as u32)
+}
+
 // A vector word's last operand, an immediate sign-extended whatever the operation: a shift looks at the low five bits only.
-fn operand(x: &[u32; SCALARS], w: u32) -> Operand
-    ensures { λ b. ⌜ OperandOk b × ((g h s v d : List ℕ) → b ≡ sourceOf (extendOf 5) (sourceIn (fieldsOf w)) (state (warpOf g h (now (x .entry)) s) v d)) ⌝ }
+fn operand(x: &[u32; SCALARS], w: u64) -> Operand
+    ensures { λ b. ⌜ OperandOk b × ((g h s v d : List ℕ) → b ≡ sourceOf extendOf (onSource (digitsIn w) (sourceIn (fieldsOf w))) (state (warpOf g h (now (x .entry)) s) v d)) ⌝ }
 {
     let funct3 = fields::funct3(w);
     match funct3 {
         0b000 => Operand::Reg(fields::vs1(w)),
         0b010 => Operand::Reg(fields::vs1(w)),
-        0b011 => Operand::Word(word::extend(5, fields::rs1(w) as u32)),
+        0b011 => Operand::Word(vi_immediate(w)),
         _ => Operand::Word(first(x, w)),
     }
 }
@@ -78,10 +90,10 @@ pub fn vector(
     x: &[u32; SCALARS],
     v: &mut [u32],
     kind: u32,
-    w: u32,
+    w: u64,
 ) -> u32
     requires { ⌜ Lanes (now g) (now h) (now v) ⌝ }
-    ensures { λ c. ⌜ ((s d : List ℕ) → length s ≡ flatCount → Handles (execOf (laneOpWord (opAt (kind % opLimit)) (fieldsOf w))) c (lists (now (g .entry)) (now (h .entry)) (now (x .entry)) s (now (v .entry)) d) (lists (now (g .entry)) (now (h .exit)) (now (x .entry)) s (now (v .exit)) d)) ⌝ }
+    ensures { λ c. ⌜ ((s d : List ℕ) → length s ≡ flatCount → Handles (execOf (onFields (digitsIn w) (laneOpWord (opAt (kind % opLimit)) (fieldsOf w)))) c (lists (now (g .entry)) (now (h .entry)) (now (x .entry)) s (now (v .entry)) d) (lists (now (g .entry)) (now (h .exit)) (now (x .entry)) s (now (v .exit)) d)) ⌝ }
 {
     let b = operand(x, w);
     let op = fields::op_at(kind % kinds::OPS);
@@ -103,10 +115,10 @@ pub fn vmove(
     g: &[u32; FIXED],
     x: &[u32; SCALARS],
     v: &mut [u32],
-    w: u32,
+    w: u64,
 ) -> u32
     requires { ⌜ Lanes (now g) (now h) (now v) ⌝ }
-    ensures { λ c. ⌜ ((s d : List ℕ) → length s ≡ flatCount → Handles (execOf (Instr.VMove (vOf (fieldsOf w .rd)) (sourceIn (fieldsOf w)))) c (lists (now (g .entry)) (now (h .entry)) (now (x .entry)) s (now (v .entry)) d) (lists (now (g .entry)) (now (h .exit)) (now (x .entry)) s (now (v .exit)) d)) ⌝ }
+    ensures { λ c. ⌜ ((s d : List ℕ) → length s ≡ flatCount → Handles (execOf (Instr.VMove (vdIn w) (onSource (digitsIn w) (sourceIn (fieldsOf w))))) c (lists (now (g .entry)) (now (h .entry)) (now (x .entry)) s (now (v .entry)) d) (lists (now (g .entry)) (now (h .exit)) (now (x .entry)) s (now (v .exit)) d)) ⌝ }
 {
     let b = operand(x, w);
     lanes::move_lanes(v, h[MASK], threads(g), fields::vd(w), b);
@@ -120,10 +132,10 @@ pub fn vmove_sx(
     g: &[u32; FIXED],
     x: &[u32; SCALARS],
     v: &mut [u32],
-    w: u32,
+    w: u64,
 ) -> u32
     requires { ⌜ Lanes (now g) (now h) (now v) ⌝ }
-    ensures { λ c. ⌜ ((s d : List ℕ) → length s ≡ flatCount → Handles (execOf (Instr.VMoveSX (vOf (fieldsOf w .rd)) (xOf (fieldsOf w .rs1)))) c (lists (now (g .entry)) (now (h .entry)) (now (x .entry)) s (now (v .entry)) d) (lists (now (g .entry)) (now (h .exit)) (now (x .entry)) s (now (v .exit)) d)) ⌝ }
+    ensures { λ c. ⌜ ((s d : List ℕ) → length s ≡ flatCount → Handles (execOf (Instr.VMoveSX (vdIn w) (xs1In w))) c (lists (now (g .entry)) (now (h .entry)) (now (x .entry)) s (now (v .entry)) d) (lists (now (g .entry)) (now (h .exit)) (now (x .entry)) s (now (v .exit)) d)) ⌝ }
 {
     let y = first(x, w);
     lanes::move_lanes(v, h[MASK], threads(g), fields::vd(w), Operand::Word(y));
@@ -131,9 +143,9 @@ pub fn vmove_sx(
     answer::DONE
 }
 
-pub fn vid(h: &mut [u32; MOVING], g: &[u32; FIXED], v: &mut [u32], w: u32) -> u32
+pub fn vid(h: &mut [u32; MOVING], g: &[u32; FIXED], v: &mut [u32], w: u64) -> u32
     requires { ⌜ Lanes (now g) (now h) (now v) ⌝ }
-    ensures { λ c. ⌜ ((x s d : List ℕ) → length s ≡ flatCount → Handles (execOf (Instr.Vid (vOf (fieldsOf w .rd)))) c (lists (now (g .entry)) (now (h .entry)) x s (now (v .entry)) d) (lists (now (g .entry)) (now (h .exit)) x s (now (v .exit)) d)) ⌝ }
+    ensures { λ c. ⌜ ((x s d : List ℕ) → length s ≡ flatCount → Handles (execOf (Instr.Vid (vdIn w))) c (lists (now (g .entry)) (now (h .entry)) x s (now (v .entry)) d) (lists (now (g .entry)) (now (h .exit)) x s (now (v .exit)) d)) ⌝ }
 {
     lanes::id_lanes(v, h[MASK], threads(g), fields::vd(w));
     running::next(h);
@@ -146,10 +158,10 @@ pub fn vmove_xs(
     g: &[u32; FIXED],
     x: &mut [u32; SCALARS],
     v: &[u32],
-    w: u32,
+    w: u64,
 ) -> u32
     requires { ⌜ Lanes (now g) (now h) (now v) ⌝ }
-    ensures { λ c. ⌜ ((s d : List ℕ) → length s ≡ flatCount → Handles (execOf (Instr.VMoveXS (xOf (fieldsOf w .rd)) (vOf (fieldsOf w .rs2)))) c (lists (now (g .entry)) (now (h .entry)) (now (x .entry)) s (now (v .entry)) d) (lists (now (g .entry)) (now (h .exit)) (now (x .exit)) s (now (v .entry)) d)) ⌝ }
+    ensures { λ c. ⌜ ((s d : List ℕ) → length s ≡ flatCount → Handles (execOf (Instr.VMoveXS (xdIn w) (vs2In w))) c (lists (now (g .entry)) (now (h .entry)) (now (x .entry)) s (now (v .entry)) d) (lists (now (g .entry)) (now (h .exit)) (now (x .exit)) s (now (v .entry)) d)) ⌝ }
 {
     let held = lanes::uniform(v, h[MASK], threads(g), fields::vs2(w));
     if held.uniform {
@@ -163,10 +175,10 @@ pub fn vbranch(
     g: &[u32; FIXED],
     s: &mut [u32; FLAT],
     v: &[u32],
-    w: u32,
+    w: u64,
 ) -> u32
     requires { ⌜ Lanes (now g) (now h) (now v) × (length (now s) ≡ flatCount) × (depthIn (now h) + ones (maskIn (now h)) ≤ lanesMax) ⌝ }
-    ensures { λ c. ⌜ ((x d : List ℕ) → Handles (execOf (Instr.VBranch (condOf (fieldsOf w)) (vOf (fieldsOf w .rs1)) (vOf (fieldsOf w .rs2)) (immB (fieldsOf w)))) c (lists (now (g .entry)) (now (h .entry)) x (now (s .entry)) (now (v .entry)) d) (lists (now (g .entry)) (now (h .exit)) x (now (s .exit)) (now (v .entry)) d)) ⌝ }
+    ensures { λ c. ⌜ ((x d : List ℕ) → Handles (execOf (Instr.VBranch (condOf (fieldsOf w)) (vs1In w) (vs2In w) (immB (fieldsOf w)))) c (lists (now (g .entry)) (now (h .entry)) x (now (s .entry)) (now (v .entry)) d) (lists (now (g .entry)) (now (h .exit)) x (now (s .exit)) (now (v .entry)) d)) ⌝ }
 {
     let e = lanes::else_mask(
         v,
@@ -193,7 +205,7 @@ fn some_crosses(
     mask: u32,
     g: &[u32; FIXED],
     v: &[u32],
-    w: u32,
+    w: u64,
     size: usize,
 ) -> bool
     requires { ⌜ LanesAt mask (now g) (now v) × (off < offsetLimit space) × (size ≤ 4) ⌝ }
@@ -203,7 +215,7 @@ fn some_crosses(
 }
 
 // Where the lanes' accesses go.
-fn lane_addresses(space: Space, off: u16, g: &[u32; FIXED], v: &[u32], w: u32) -> [u32; LANES]
+fn lane_addresses(space: Space, off: u16, g: &[u32; FIXED], v: &[u32], w: u64) -> [u32; LANES]
     requires { ⌜ (length (now v) ≡ fileWords) × FixedOk (fixedIn (now g)) × (off < offsetLimit space) ⌝ }
     ensures { λ o. ⌜ RowOf (fixedIn (now (g .entry)) .numt) (addressAt space off w (now (g .entry)) (now (v .entry))) o ⌝ }
 {
@@ -228,7 +240,7 @@ pub fn vload(
     g: &[u32; FIXED],
     v: &mut [u32],
     d: &[u8],
-    w: u32,
+    w: u64,
 ) -> u32
     requires { ⌜ LanesAt mask (now g) (now v) × MemoryOk (memory (fixedIn (now g) .dataBase) (now d)) × (off < offsetLimit space) ⌝ }
     ensures { λ c. ⌜ LaneLoad c space off mask w (now (g .entry)) (now (v .entry)) (now (d .entry)) (now (v .exit)) ⌝ }
@@ -249,7 +261,7 @@ pub fn vstore(
     g: &[u32; FIXED],
     v: &[u32],
     d: &mut [u8],
-    w: u32,
+    w: u64,
 ) -> u32
     requires { ⌜ LanesAt mask (now g) (now v) × MemoryOk (memory (fixedIn (now g) .dataBase) (now d)) × (off < offsetLimit space) ⌝ }
     ensures { λ c. ⌜ LaneStore c space off mask w (now (g .entry)) (now (v .entry)) (now (d .entry)) (now (d .exit)) ⌝ }

@@ -28,9 +28,9 @@ pub cells-are : (n : ℕ) (h : List ℕ) → length h ≡ n → h ≡ cells n 0 
 cells-are n h z = whole h ∙ ap (λ (k : ℕ). cells k 0 h) z
 
 -- the moving words written out, so that set and getD compute on them
-pub seven : (h : List ℕ) → length h ≡ movingCount → h ≡ getD h 0 0 ∷ getD h 1 0 ∷ getD h 2 0 ∷ getD h 3 0 ∷ getD h 4 0 ∷ getD h 5 0 ∷ getD h 6 0 ∷ []
+pub moving-cells : (h : List ℕ) → length h ≡ movingCount → h ≡ getD h 0 0 ∷ getD h 1 0 ∷ getD h 2 0 ∷ getD h 3 0 ∷ getD h 4 0 ∷ getD h 5 0 ∷ getD h 6 0 ∷ getD h 7 0 ∷ getD h 8 0 ∷ []
 unfolding cells
-seven h z = cells-are movingCount h z
+moving-cells h z = cells-are movingCount h z
 
 -- to show P of words that have a first split record, it is enough to show it where that record is written out
 pub record-first : (P : List ℕ → Type 0) → ((a b c d e : ℕ) (s : List ℕ) → P (a ∷ b ∷ c ∷ d ∷ e ∷ s)) → (s : List ℕ) → splitSize ≤ length s → P s

@@ -19,7 +19,7 @@ use Rattle.warp.proofs.Formed.{formed, held-of}
 use Rattle.warp.proofs.Moves.{room-left}
 use Rattle.layout.specs.Words.{flatCount, movingCount, fixedCount, movingStart, fixedStart, stateWords, isFlag, depthIn, maskIn, endedIn, waitingIn, fixedIn, warpOf, phasesOkOf, soundOf, splitsWords, movingWords, fixedWords, wordsOf, scalarPart, splitPart, movingPart, fixedPart, warpIn, soundIn}
 use Rattle.layout.specs.Lent.{Lent}
-use Rattle.layout.proofs.Lists.{cells, cells-are, seven}
+use Rattle.layout.proofs.Lists.{cells, cells-are, moving-cells}
 use Rattle.layout.proofs.Splits.{flag-bit, flag-is, flag-word, splits-length, words-length, splits-back, words-phases, flat-back}
 
 -- ---- sound words
@@ -65,7 +65,7 @@ module _ (g h x s : List ℕ) (lg : length g ≡ fixedCount) (lh : length h ≡ 
 
   moving-same : movingWords (warpOf g h x s) ≡ h
   unfolding warpOf
-  moving-same = rw (flag-word (endedIn h) (sound-parts h s o .ended), flag-word (waitingIn h) (sound-parts h s o .waiting)) (sym (seven h lh))
+  moving-same = rw (flag-word (endedIn h) (sound-parts h s o .ended), flag-word (waitingIn h) (sound-parts h s o .waiting)) (sym (moving-cells h lh))
 
   pub together-words : wordsOf (warpOf g h x s) ≡ x ++ s ++ h ++ g
   unfolding warpOf wordsOf

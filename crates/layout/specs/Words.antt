@@ -10,6 +10,8 @@ use Rattle.warp.specs.declared.Split.{Split}
 use Rattle.warp.specs.declared.Fixed.{Fixed}
 use Rattle.warp.specs.declared.Warp.{Warp}
 use Rattle.isa.specs.Bounds.{scalarRegisters}
+use Rattle.isa.specs.declared.Prefix.{Prefix}
+use Rattle.isa.specs.Prefix.{prefix}
 use Rattle.warp.specs.Warp.{splitCount}
 
 -- ---- how many words
@@ -22,7 +24,7 @@ abbrev pub flatCount : ℕ
 flatCount = splitCount * splitSize
 
 abbrev pub movingCount : ℕ
-movingCount = 7
+movingCount = 9
 
 abbrev pub fixedCount : ℕ
 fixedCount = 13
@@ -72,6 +74,12 @@ endedAt = 5
 abbrev pub waitingAt : ℕ
 waitingAt = 6
 
+abbrev pub prefixAt : ℕ
+prefixAt = 7
+
+abbrev pub bitsAt : ℕ
+bitsAt = 8
+
 abbrev pub depthIn : List ℕ → ℕ
 depthIn h = getD h depthAt 0
 
@@ -92,6 +100,9 @@ endedIn h = getD h endedAt 0
 
 abbrev pub waitingIn : List ℕ → ℕ
 waitingIn h = getD h waitingAt 0
+
+abbrev pub prefixIn : List ℕ → Prefix
+prefixIn h = prefix (getD h prefixAt 0) (getD h bitsAt 0)
 
 abbrev pub fixedIn : List ℕ → Fixed
 fixedIn g =
@@ -145,6 +156,7 @@ warpOf g h x s =
       print = printIn h;
       ended = isSet (endedIn h);
       waiting = isSet (waitingIn h);
+      prefix = prefixIn h;
       fixed = fixedIn g;
     }
 
@@ -167,7 +179,7 @@ splitsWords [] = []
 splitsWords (q ∷ qs) = splitWords q ++ splitsWords qs
 
 abbrev pub movingWords : Warp → List ℕ
-movingWords w = w .depth ∷ w .pc ∷ w .mask ∷ w .rpc ∷ w .print ∷ flagOf (w .ended) ∷ flagOf (w .waiting) ∷ []
+movingWords w = w .depth ∷ w .pc ∷ w .mask ∷ w .rpc ∷ w .print ∷ flagOf (w .ended) ∷ flagOf (w .waiting) ∷ w .prefix .kind ∷ w .prefix .bits ∷ []
 
 abbrev pub fixedWords : Fixed → List ℕ
 fixedWords f =

@@ -1,4 +1,5 @@
 // A warp as words, in the order of a saved state: the places, and the ways from a Warp and back.
+use isa::Prefix;
 use warp::Fixed;
 use warp::SPLITS;
 use warp::Split;
@@ -15,20 +16,20 @@ ghost use Rattle.layout.specs.Words.{stateWords, fixedIn, splitAt, split
 ghost use Rattle.layout.specs.Lent.{putSplit};
 
 // How many words: the scalar registers, the split records, what moves, what a launch fixed.
-pub const SCALARS: usize = 32;
+pub const SCALARS: usize = 64;
 
 pub const FLAT: usize = 155;
 
-pub const MOVING: usize = 7;
+pub const MOVING: usize = 9;
 
 pub const FIXED: usize = 13;
 
 // Where the last two of these begin in a saved state, after the others, and how many words it has.
-pub const MOVING_START: usize = 187;
+pub const MOVING_START: usize = 219;
 
-pub const FIXED_START: usize = 194;
+pub const FIXED_START: usize = 228;
 
-pub const STATE_WORDS: usize = 207;
+pub const STATE_WORDS: usize = 241;
 
 // The places of the moving words.
 pub const DEPTH: usize = 0;
@@ -44,6 +45,10 @@ pub const PRINT: usize = 4;
 pub const ENDED: usize = 5;
 
 pub const WAITING: usize = 6;
+
+pub const PREFIX: usize = 7;
+
+pub const BITS: usize = 8;
 
 // The places of the fixed values.
 pub const NUMT: usize = 0;
@@ -138,6 +143,8 @@ pub fn moving_of(w: Warp) -> [u32; MOVING]
         w.print,
         flag_word(w.ended),
         flag_word(w.waiting),
+        w.prefix.kind,
+        w.prefix.bits,
     ]
 }
 
@@ -223,6 +230,10 @@ pub fn together(h: &[u32; MOVING], g: &[u32; FIXED], x: [u32; SCALARS], s: &[u32
         print: h[PRINT],
         ended: h[ENDED] != 0,
         waiting: h[WAITING] != 0,
+        prefix: Prefix {
+            kind: h[PREFIX],
+            bits: h[BITS],
+        },
         fixed: f,
     }
 }

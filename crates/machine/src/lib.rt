@@ -46,7 +46,7 @@ fn launched(l: Launch) -> Warp
     let f = l.fixed;
     let z = warp::zero_split();
     Warp {
-        x: [0; 32],
+        x: [0; 64],
         splits: [z; 31],
         depth: 0,
         pc: l.entry,
@@ -55,6 +55,7 @@ fn launched(l: Launch) -> Warp
         print: 0,
         ended: false,
         waiting: false,
+        prefix: warp::no_prefix(),
         fixed: f,
     }
 }

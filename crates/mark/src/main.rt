@@ -26,7 +26,7 @@ const LINE_BUFFER: usize = NAME_BUFFER + LINE_ROOM;
 // The three lines of the differing step. The data is read anew, since marking changed it.
 fn show_step(card: &[u8], kernel: &[u8], sheet: &[u8], step: u32) {
     let mut memory = [0u8; DATA_BUFFER];
-    let mut vector = [0u32; 1024];
+    let mut vector = [0u32; 8192];
     let mut target = [0u8; SHEET_ROOM];
     let mut out = [0u8; STEPS_ROOM];
     let b = files::read_argument(DATA, &mut memory);
@@ -45,7 +45,7 @@ fn print_marks(
     name: &[u8],
     show: bool,
 ) {
-    let mut vector = [0u32; 1024];
+    let mut vector = [0u32; 8192];
     let mut out = [0u8; LINE_BUFFER];
     let line = sheet_files::mark_files(card, kernel, bytes, &mut vector, sheet, name, &mut out);
     let size = line.size;

@@ -65,7 +65,7 @@ fn main() {
     let mut cards = [0u8; CARD_BUFFER];
     let mut kernels = [0u8; KERNEL_BUFFER];
     let mut memory = [0u8; DATA_BUFFER];
-    let mut vector = [0u32; 1024];
+    let mut vector = [0u32; 8192];
     let mut target = [0u8; SHEET_ROOM];
     let c = files::read_argument(CARD, &mut cards);
     let k = files::read_argument(KERNEL, &mut kernels);

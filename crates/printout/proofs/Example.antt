@@ -4,9 +4,10 @@ use Prim.Native.Nat.{ℕ}
 use mathlib.Core.List.{List, [], _∷_}
 use lib.ListN.{replicate}
 use Rattle.isa.specs.Decode.{decodeOf}
-use Rattle.isa.specs.Ventus.{stopWord, endPrgWord}
+use Rattle.isa.specs.Ventus.{warpWord, stopWord, endPrgWord}
+use Rattle.isa.specs.Prefix.{prefixed}
 use Rattle.lanes.specs.Mask.{bitAt}
-use Rattle.warp.specs.WellFormed.{fixedOkOf, splitOkOf, chainOf, allZero, wellFormedOf}
+use Rattle.warp.specs.WellFormed.{fixedOkOf, splitOkOf, chainOf, allZero, prefixOkOf, wellFormedOf}
 use Rattle.card.specs.Card.{headOkAt, launchAt, readCardOf}
 use Rattle.definition.specs.Refuse.{runsOkOf, refusalsOf}
 use Rattle.definition.specs.Exec.{effectOf}
@@ -22,7 +23,7 @@ card = 0 ∷ 48 ∷ 1 ∷ 4 ∷ 1 ∷ 0 ∷ 0 ∷ 0 ∷ 0 ∷ 15 ∷ 128 ∷ 0 �
 
 -- the files' printout is code 3, steps 1, pc 80000000, mask f, splits 0
 end-alone : printoutOf card (11 ∷ 64 ∷ 0 ∷ 0 ∷ []) [] ≡ fiveLines 3 1 0x80000000 15 0
-unfolding printoutOf reportOf readFilesOf filesOkOf kernelWordsOf kernelReport readCardOf headOkAt launchAt launchOf runOf stepsOf stepOf runsOkOf refusalsOf effectOf wellFormedOf fixedOkOf chainOf splitOkOf allZero bitAt decodeOf stopWord endPrgWord
+unfolding printoutOf reportOf readFilesOf filesOkOf kernelWordsOf kernelReport readCardOf headOkAt launchAt launchOf runOf stepsOf stepOf runsOkOf refusalsOf effectOf wellFormedOf fixedOkOf chainOf splitOkOf allZero prefixOkOf bitAt decodeOf prefixed warpWord stopWord endPrgWord
 end-alone = refl
 
 -- and those are the lines

@@ -33,7 +33,7 @@ fn put_five_lines(out: &mut [u8], code: u32, steps: u64, pc: u32, mask: u32, spl
 // The bytes that hold every printout.
 pub const ROOM: usize = 107;
 
-const FILE_WORDS: usize = 1024;
+const FILE_WORDS: usize = 8192;
 
 const BUDGET: u32 = 65536;
 

@@ -21,15 +21,16 @@ use Rattle.lanes.proofs.Laws.{each-keeps, write-only, write-unwritten}
 use Rattle.lanes.proofs.MaskLaws.{bit-above}
 use Rattle.warp.specs.declared.Warp.{Warp}
 use Rattle.warp.specs.Warp.{aligned, splitCount}
-use Rattle.warp.specs.WellFormed.{fixedOkOf, allZero, chainOf, wellFormedOf}
+use Rattle.warp.specs.WellFormed.{fixedOkOf, allZero, chainOf, prefixOkOf, wellFormedOf}
 use Rattle.warp.proofs.Chain.{chain-le}
-use Rattle.definition.specs.State.{State, Outcome, fixedOf, active, instrAt}
+use Rattle.definition.specs.State.{State, Outcome, fixedOf, active, instrAt, usedUp}
 use Rattle.definition.specs.Refuse.{runsOkOf, stepTests, testsOf}
 use Rattle.definition.specs.Exec.{Effect, effect, effectOf}
-use Rattle.definition.specs.Step.{stepOf}
+use Rattle.definition.specs.Step.{carriedOut, stepOf}
+use Rattle.isa.specs.Prefix.{pending}
 use Rattle.definition.proofs.Sizes.{sizes, sizes-kept}
 use Rattle.definition.proofs.Sound.{step-clear, step-taken}
-use Rattle.definition.proofs.Target.{step-within}
+use Rattle.definition.proofs.Used.{step-within}
 use Rattle.promises.specs.Lanes.{isActive, SameLane, Agree, allBut, withFile, Alike, ActiveMask, Kept, Unwritten, Unseen, Unfelt, LaneAlone}
 use Rattle.promises.proofs.Refusals.{is-zero, step-table, step-keeps}
 use Rattle.promises.proofs.Stores.{active-of, becomes-stays}
@@ -49,7 +50,8 @@ active-mask m e l = below (ltb (l .0) (fixedOf m .numt)) refl
     small =
         let p = every-at
         (fixedOkOf (w .fixed) ∷ aligned (w .pc) ∷ eqb (getD (w .x) 0 0) 0 ∷ leb (w .depth) splitCount ∷ allZero (drop (w .depth) (w .splits)) ∷ not (w .ended && w .waiting)
-        ∷ chainOf (w .fixed .launchMask) (w .splits) (w .depth) (w .mask) ∷ not ((w .ended || w .waiting) && ltb 0 (w .depth)) ∷ []) e in
+        ∷ chainOf (w .fixed .launchMask) (w .splits) (w .depth) (w .mask) ∷ not ((w .ended || w .waiting) && ltb 0 (w .depth)) ∷ prefixOkOf (w .prefix)
+        ∷ not ((w .ended || w .waiting) && pending (w .prefix)) ∷ []) e in
         lt-of-le-of-lt (chain-le (w .fixed .launchMask) (w .splits) (w .depth) (w .mask) (p 6)) (fixed-of w e .mask)
 
     below : (t : Bool) → ltb (l .0) (fixedOf m .numt) ≡ t → (t && active m l) ≡ active m l
@@ -67,12 +69,12 @@ module _ (k : List ℕ) (m : State) (u : List ℕ) (P : State → State → Type
 
   -- two steps with one number: both were refused, or both taken
   by-both : stepOf k m .code ≡ stepOf k other .code → P m other
-      → (stepOf k m .code ≡ 0 → P (effect (effectOf (instrAt k m) m) m) (effect (effectOf (instrAt k m) other) other)) → P (stepOf k m .left) (stepOf k other .left)
+      → (stepOf k m .code ≡ 0 → P (carriedOut (instrAt k m) (usedUp m)) (carriedOut (instrAt k m) (usedUp other))) → P (stepOf k m .left) (stepOf k other .left)
   by-both c old new =
       is-zero (stepOf k m .code) (λ z. subst₂ P (sym (step-taken k m z)) (sym (step-taken k other (sym c ∙ z))) (new z))
       (λ n. subst₂ P (sym (ap (λ (o : Outcome). o .left) (step-keeps k m n))) (sym (ap (λ (o : Outcome). o .left) (step-keeps k other (λ z. n (c ∙ z))))) old)
 
-by-step : (k : List ℕ) (m : State) (P : State → Type 0) → P m → (stepOf k m .code ≡ 0 → P (effect (effectOf (instrAt k m) m) m)) → P (stepOf k m .left)
+by-step : (k : List ℕ) (m : State) (P : State → Type 0) → P m → (stepOf k m .code ≡ 0 → P (carriedOut (instrAt k m) (usedUp m))) → P (stepOf k m .left)
 by-step k m P = by-both k m (m .vector) (λ n o. P n) refl
 
 kept-by : (m : State) (u : List ℕ) (i : Instr) (a b : Effect) → fixedOf m .numt ≤ lanesMax → (l : Lane) → l .0 < lanesMax → isActive m l ≡ false → Twin m u i a b → SameLane l (effect a m .vector) (m .vector)
@@ -83,7 +85,7 @@ kept-by m u i a b n l h o (stores-both t e) r = refl
 pub kept : Kept
 kept k m l h o =
     by-step k m (λ n. SameLane l (n .vector) (m .vector)) (λ r. refl)
-    (λ z. kept-by m (m .vector) _ _ _ (fixed-of (m .warp) (step-clear k m z .formed) .lanes .1) l h o (compared m (m .vector) (instrAt k m) .twin))
+    (λ z. kept-by (usedUp m) (m .vector) _ _ _ (fixed-of (m .warp) (step-clear k m z .formed) .lanes .1) l h o (compared (usedUp m) (m .vector) (instrAt k m) .twin))
 
 pub unwritten : Unwritten
 unwritten k m = (
@@ -110,8 +112,8 @@ write-alike n on c f g v u l hn lv lu hl e s = in-file (ltb (c .0) vectorRegiste
         subst₂ (SameLane l) (sym (none b f v lv)) (sym (none b g u lu)) s
 
 module _ (k : List ℕ) (m : State) (u : List ℕ) (long : length (m .vector) ≡ length u) where
-  alone : (i : Instr) (a b : Effect) → stepOf k m .code ≡ 0 → (l : Lane) → l .0 < lanesMax → SameLane l (m .vector) u → Twin m u i a b
-      → SameLane l (effect a m .vector) (effect b (withFile u m) .vector)
+  alone : (i : Instr) (a b : Effect) → stepOf k m .code ≡ 0 → (l : Lane) → l .0 < lanesMax → SameLane l (m .vector) u → Twin (usedUp m) u i a b
+      → SameLane l (effect a (usedUp m) .vector) (effect b (withFile u (usedUp m)) .vector)
   alone i a b z l h s (moves e) = s
   alone i a b z l h s (gives {r = c} {f = f} {g = g} w e) =
       let t = step-clear k m z in
@@ -131,7 +133,7 @@ module _ (k : List ℕ) (m : State) (u : List ℕ) (long : length (m .vector) �
         by-formed true f = rw runs (ap (λ (rs : List (Row Bool)). first (stepTests k (withFile u m) ++ rs)) (compared m u (instrAt k m) .rows (same f)))
         by-formed false f = rw (runs, f)
 
-    equal : (i : Instr) (a b : Effect) → Same m u → Twin m u i a b → (effect a m .warp ≡ effect b (withFile u m) .warp) × (effect a m .bytes ≡ effect b (withFile u m) .bytes)
+    equal : (i : Instr) (a b : Effect) → Same m u → Twin (usedUp m) u i a b → (effect a (usedUp m) .warp ≡ effect b (withFile u (usedUp m)) .warp) × (effect a (usedUp m) .bytes ≡ effect b (withFile u (usedUp m)) .bytes)
     equal i a b s (moves e) = (e s, refl)
     equal i a b s (gives w e) = (refl, refl)
     equal i a b s (stores-both t e) = (refl, e s)
@@ -139,10 +141,10 @@ module _ (k : List ℕ) (m : State) (u : List ℕ) (long : length (m .vector) �
     left-same : (stepOf k m .left .warp ≡ stepOf k (withFile u m) .left .warp) × (stepOf k m .left .bytes ≡ stepOf k (withFile u m) .left .bytes)
     left-same =
         by-both k m u (λ n o. (n .warp ≡ o .warp) × (n .bytes ≡ o .bytes)) code-same (refl, refl)
-        (λ z. equal _ _ _ (same (step-clear k m z .formed)) (compared m u (instrAt k m) .twin))
+        (λ z. equal _ _ _ (same (step-clear k m z .formed)) (compared (usedUp m) u (instrAt k m) .twin))
 
 pub lane-alone : LaneAlone
-lane-alone k m u long c l h s = by-both k m u (λ n o. SameLane l (n .vector) (o .vector)) c s (λ z. alone k m u long _ _ _ z l h s (compared m u (instrAt k m) .twin))
+lane-alone k m u long c l h s = by-both k m u (λ n o. SameLane l (n .vector) (o .vector)) c s (λ z. alone k m u long _ _ _ z l h s (compared (usedUp m) u (instrAt k m) .twin))
 
 -- a set of lanes with all active ones: where the files agree on it, the outcomes are alike on it
 alike : (k : List ℕ) (m : State) (u : List ℕ) (on : Lane → Bool) → ((l : Lane) → isActive m l ≡ true → on l ≡ true) → Agree on (m .vector) u → Alike on (stepOf k m) (stepOf k (withFile u m))

@@ -3,8 +3,11 @@ pub mod Reached
 pub mod Runs
 pub mod Splits
 pub mod Stores
+pub mod Used
 pub mod Twins
 pub mod Written
 pub mod Lanes
 pub mod Private
+pub mod Prefixes
 pub mod Determined
+pub mod High

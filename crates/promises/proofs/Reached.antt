@@ -12,17 +12,17 @@ use Rattle.lanes.specs.Lanes.{fileWords}
 use Rattle.warp.specs.declared.Launch.{Launch}
 use Rattle.warp.specs.declared.Warp.{Warp}
 use Rattle.warp.specs.Warp.{aligned, splitCount, Answered}
-use Rattle.warp.specs.WellFormed.{fixedOkOf, launchOkOf, chainOf, allZero, wellFormedOf}
+use Rattle.warp.specs.WellFormed.{fixedOkOf, launchOkOf, chainOf, allZero, prefixOkOf, wellFormedOf}
 use Rattle.warp.proofs.Moves.{Moves, leaves}
 use Rattle.warp.specs.Facts.{Formed}
-use Rattle.warp.proofs.Formed.{formed, well, formed-stop}
+use Rattle.warp.proofs.Formed.{stopped-none, formed, well, formed-stop, waiting-free}
 use Rattle.definition.specs.State.{State, state, Outcome, outcome, fixedOf}
 use Rattle.definition.specs.Refuse.{runsOkOf}
 use Rattle.definition.specs.Step.{stepOf}
 use Rattle.definition.specs.Calls.{launchedOf, launchOf}
 use Rattle.definition.proofs.Sizes.{sizes, sizes-kept}
 use Rattle.definition.proofs.Sound.{step-sound}
-use Rattle.definition.proofs.Target.{step-within}
+use Rattle.definition.proofs.Used.{step-within}
 use Rattle.promises.specs.Reached.{GoesOn, steps, releases, changes, launched, goes, Sound, ReachedSound, NeverMalformed}
 use Rattle.promises.proofs.Refusals.{step-refusals, launch-refusals, release-refusals}
 
@@ -47,13 +47,7 @@ pub record Carried (s t : State) : Type 0 where
 
 -- a waiting warp has no split open
 shut : (w : Warp) → Formed w → w .waiting ≡ true → w .depth ≡ 0
-shut w f b = let z : ltb 0 (w .depth) ≡ false = go (w .ended) (w .waiting) (ltb 0 (w .depth)) (f .quiet) b in omega (arith, ltb-false 0 (w .depth) z)
-  where
-    go : (a b c : Bool) → not ((a || b) && c) ≡ true → b ≡ true → c ≡ false
-    go a b false h t = refl
-    go true b true h t = cc
-    go false true true h t = cc
-    go false false true h t = cc
+shut w f b = let z : ltb 0 (w .depth) ≡ false = stopped-none (w .ended) (w .waiting) (ltb 0 (w .depth)) (f .quiet) b in omega (arith, ltb-false 0 (w .depth) z)
 
 pub carried : (k : List ℕ) (s t : State) → Fit k s → GoesOn k s t → Carried s t
 carried k s t g (steps q) =
@@ -74,7 +68,7 @@ carried k s t g (releases q) =
     let f : Formed (s .warp) = formed (s .warp) (g .splits) (g .formed) in
     subst (λ (u : Warp). Carried s (state u (s .vector) (s .bytes))) (ap (λ (a : Answered). a .warp) (sym (r .gives z) ∙ q))
     (record {
-      formed = formed-stop (s .warp) f false false refl (shut (s .warp) f (r .row0 .0 z .1));
+      formed = formed-stop (s .warp) f false false refl (shut (s .warp) f (r .row0 .0 z .1)) (waiting-free (s .warp) f (r .row0 .0 z .1));
       moves = leaves (record { splits = refl; depth = refl; mask = refl; fixed = refl });
       fixed = refl;
       registers = refl;
@@ -105,7 +99,7 @@ goes-sound k l s t g n =
 -- ---- the launch
 
 formed-launch : (l : Launch) → launchOkOf l ≡ true → Formed (launchedOf l)
-unfolding allZero chainOf
+unfolding allZero chainOf prefixOkOf
 formed-launch l e =
     let p = both (fixedOkOf (l .fixed)) (aligned (l .entry)) e in
     record {
@@ -118,6 +112,8 @@ formed-launch l e =
       one = refl;
       chain = eq-eqb (l .fixed .launchMask) _ refl;
       quiet = refl;
+      prefix = refl;
+      free = refl;
     }
 
 launch-sound : (k : List ℕ) (l : Launch) (s : State) (v d : List ℕ) → launchOf k l v d ≡ outcome 0 s → Sound k l s

@@ -25,9 +25,9 @@ use Rattle.warp.specs.Csr.{isPrint, writesOf, csrAt, csrDone}
 use Rattle.warp.proofs.Moves as M
 use Rattle.warp.specs.Facts.{Formed}
 use Rattle.warp.proofs.Formed.{formed, depth-le, held-of, mask-small}
-use Rattle.definition.specs.State.{State, Outcome, outcome, pcBy, xOf, elseOf, instrAt}
-use Rattle.definition.specs.Exec.{effect, effectOf}
-use Rattle.definition.specs.Step.{stepOf}
+use Rattle.definition.specs.State.{State, Outcome, outcome, pcBy, xOf, elseOf, instrAt, usedUp}
+use Rattle.definition.specs.Exec.{effectOf}
+use Rattle.definition.specs.Step.{carriedOut, stepOf}
 use Rattle.definition.proofs.Sound.{step-taken}
 use Rattle.promises.specs.Reached.{steps, Sound}
 use Rattle.promises.specs.Splits.{Disagree, Opens, Near, OneAtMost, SplitCuts, SplitWhen, Covered, Fewer, AtMost, Room, OneLane, Above, here, on, Restored}
@@ -108,7 +108,7 @@ module _ (s : State) where
       by-cond (Opener s _) (eqb (elseOf c a b s) 0) _ _ (λ z. stays _ _ refl)
       (λ z. by-cond (Opener s _) (eqb (elseOf c a b s) (W .mask)) _ _ (λ e. stays _ _ refl) (λ e. branch c a b n refl refl))
 
-  opener : (i : Instr) → Opener s i (effect (effectOf i s) s .warp)
+  opener : (i : Instr) → Opener s i (carriedOut i s .warp)
   unfolding effectOf
   opener I.Refused = stays _ _ refl
   opener (I.Lui r n) = stays _ _ refl
@@ -135,16 +135,18 @@ module _ (s : State) where
   opener (I.Barrier n) = stays _ _ refl
   opener (I.VLoad e k r a n) = stays _ _ refl
   opener (I.VStore e k a b n) = stays _ _ refl
+  opener (I.RegExt n) = stays _ _ refl
+  opener (I.RegExtI n) = stays _ _ refl
 
 -- ---- a split opens
 
 -- a move that opens a split
 data Widens (w u : Warp) : Type 0 where
-  widens : (e p : ℕ) → M.Cuts e p w → u ≡ openOf e p w → Widens w u
+  widens : (e p : ℕ) → M.Cuts e p w → M.MoveLeaves (openOf e p w) u → Widens w u
 
 widening : (w u : Warp) → M.Moves w u → w .depth < u .depth → Widens w u
 widening w u (M.opens e p c q) d = widens e p c q
-widening w u (M.joins q) d = absurd (omega (arith, ap (λ (x : Warp). x .depth) q, joined w .most))
+widening w u (M.joins q) d = absurd (omega (arith, q .depth, joined w .most))
 widening w u (M.leaves x) d = absurd (omega (arith, x .depth))
 
 record Opened (e p : ℕ) (w u : Warp) : Type 0 where
@@ -161,7 +163,7 @@ opening e p w =
 
 module _ (k : List ℕ) (l : Launch) (s t : State) (g : Sound k l s) (q : stepOf k s ≡ outcome 0 t) where
   -- what the instruction has done
-  done : t .warp ≡ effect (effectOf (instrAt k s) s) s .warp
+  done : t .warp ≡ carriedOut (instrAt k s) (usedUp s) .warp
   done = ap (λ (o : Outcome). o .left .warp) (sym q) ∙ ap (λ (m : State). m .warp) (step-taken k s (ap (λ (o : Outcome). o .code) q))
 
   module _ (d : s .warp .depth < t .warp .depth) where
@@ -169,13 +171,13 @@ module _ (k : List ℕ) (l : Launch) (s t : State) (g : Sound k l s) (q : stepOf
     wide = widening (s .warp) (t .warp) (carried k s t (fit k l s g) (steps q) .moves) d
 
     cuts-in-two : Widens (s .warp) (t .warp) → (s .warp .depth < splitCount) × CutInTwo (s .warp .mask) (lastSplit (t .warp) .elseMask) (t .warp .mask)
-    cuts-in-two (widens e p c u) = (M.fits e p (s .warp) (held-at k l s g) c, rw u (M.cuts-open e p (s .warp) (held-at k l s g) c))
+    cuts-in-two (widens e p c u) = (M.fits e p (s .warp) (held-at k l s g) c, rw (u .splits, u .depth, u .mask) (M.cuts-open e p (s .warp) (held-at k l s g) c))
 
-    opens : Opener s (instrAt k s) (t .warp) → Opens k s t
+    opens : Opener (usedUp s) (instrAt k s) (t .warp) → Opens k s t
     opens (none n) = absurd (omega (arith, n .most))
     opens (branch c a b n i u) =
         let m = cuts-in-two wide in
-        let o : Opened (elseOf c a b s) (pcBy 13 n s) (s .warp) (t .warp) = rw u (opening (elseOf c a b s) (pcBy 13 n s) (s .warp)) in
+        let o : Opened (elseOf c a b s) (pcBy 13 n s) (usedUp s .warp) (t .warp) = rw u (opening (elseOf c a b s) (pcBy 13 n s) (usedUp s .warp)) in
         let f = o .last (omega (arith, g .splits, m .0)) in
         let e : lastSplit (t .warp) .elseMask ≡ elseOf c a b s = ap (λ (x : Split). x .elseMask) f in
         record {
@@ -186,21 +188,21 @@ module _ (k : List ℕ) (l : Launch) (s t : State) (g : Sound k l s) (q : stepOf
         }
 
     opens-at : Opens k s t
-    opens-at = opens (rw done (opener s (instrAt k s)))
+    opens-at = opens (rw done (opener (usedUp s) (instrAt k s)))
 
 pub one-at-most : OneAtMost
-one-at-most k s = is-zero (stepOf k s .code) (λ z. rw (step-taken k s z) (near (opener s (instrAt k s)))) (λ n. rw (step-keeps k s n) (record { most = omega arith; least = omega arith }))
+one-at-most k s = is-zero (stepOf k s .code) (λ z. rw (step-taken k s z) (near (opener (usedUp s) (instrAt k s)))) (λ n. rw (step-keeps k s n) (record { most = omega arith; least = omega arith }))
   where
-    near : {i : Instr} {u : Warp} → Opener s i u → Near (s .warp .depth) (u .depth)
+    near : {i : Instr} {u : Warp} → Opener (usedUp s) i u → Near (s .warp .depth) (u .depth)
     near (none j) = record { most = omega (arith, j .most); least = j .least }
     near (branch c a b n i e) =
-        let d = ap (λ (x : Warp). x .depth) e ∙ opening (elseOf c a b s) (pcBy 13 n s) (s .warp) .depth in
+        let d = ap (λ (x : Warp). x .depth) e ∙ opening (elseOf c a b s) (pcBy 13 n s) (usedUp s .warp) .depth in
         record { most = omega arith; least = omega arith }
 
 pub split-cuts : SplitCuts
 split-cuts k l s t r q d = opens-at k l s t (reached-sound k l s r) q d
 
-parts : (c : Cond) (a b : VReg) (n : ℕ) (s : State) → effect (effectOf (I.VBranch c a b n) s) s .warp ≡ parted (elseOf c a b s) (pcBy 13 n s) (s .warp)
+parts : (c : Cond) (a b : VReg) (n : ℕ) (s : State) → carriedOut (I.VBranch c a b n) s .warp ≡ parted (elseOf c a b s) (pcBy 13 n s) (s .warp)
 unfolding effectOf
 parts c a b n s = refl
 
@@ -211,10 +213,10 @@ split-when k l s t r q = ((λ d. split-cuts k l s t r q d .by), widened)
     one-more x =
         ap (λ (u : Warp). u .depth) (
         done k l s t (reached-sound k l s r) q
-        ∙ ap (λ (i : Instr). effect (effectOf i s) s .warp) (x .word)
-        ∙ parts (x .cond) (x .left) (x .right) (x .offset) s
-        ∙ sym (parted-opens _ _ (s .warp) (x .some) (x .notall)))
-        ∙ opening _ _ (s .warp) .depth
+        ∙ ap (λ (i : Instr). carriedOut i (usedUp s) .warp) (x .word)
+        ∙ parts (x .cond) (x .left) (x .right) (x .offset) (usedUp s)
+        ∙ sym (parted-opens _ _ (usedUp s .warp) (x .some) (x .notall)))
+        ∙ opening _ _ (usedUp s .warp) .depth
 
     widened : Disagree k s → s .warp .depth < t .warp .depth
     widened x = omega (arith, one-more x)
@@ -223,8 +225,8 @@ split-when k l s t r q = ((λ d. split-cuts k l s t r q d .by), widened)
 
 -- no move closes more than one split
 closes-one : (w u : Warp) → M.Moves w u → w .depth ≤ u .depth + 1
-closes-one w u (M.opens e p c q) = omega (arith, ap (λ (x : Warp). x .depth) q, opening e p w .depth)
-closes-one w u (M.joins q) = rw q (joined w .least)
+closes-one w u (M.opens e p c q) = omega (arith, q .depth, opening e p w .depth)
+closes-one w u (M.joins q) = rw (q .depth) (joined w .least)
 closes-one w u (M.leaves x) = omega (arith, x .depth)
 
 -- what is above over calls is above over moves
@@ -246,4 +248,4 @@ restored k l s a b t r q d p m f =
     (omega (arith, closes-one (b .warp) (t .warp) z, last-above _ _ _ (h .0)), back (wide k l s a g q d) (h .0) z)
   where
     back : Widens (s .warp) (a .warp) → M.OpenAbove (s .warp .depth) (a .warp) (b .warp) → M.Moves (b .warp) (t .warp) → t .warp .mask ≡ s .warp .mask
-    back (widens e o c u) x z = M.mask-restored e o (s .warp) (b .warp) (t .warp) (held-at k l s (reached-sound k l s r)) c (rw u at x) z f
+    back (widens e o c u) x z = M.mask-restored e o (s .warp) (a .warp) (b .warp) (t .warp) (held-at k l s (reached-sound k l s r)) c u x z f

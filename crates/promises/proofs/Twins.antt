@@ -58,10 +58,11 @@ module _ (m : State) (u : List ℕ) where
   fills w o = record { rows = λ s. refl; twin = gives w o }
 
   -- a scalar register or an immediate is the same with any file
-  source-same : (f : ℕ → ℕ) (e : Source) → sourceOf f e m ≡ sourceOf f e (withFile u m)
+  source-same : (f : ℕ → ℕ → ℕ) (e : Source) → sourceOf f e m ≡ sourceOf f e (withFile u m)
   source-same f (From.V r) = refl
   source-same f (From.X r) = refl
   source-same f (From.I i) = refl
+  source-same f (From.Long i) = refl
 
   at-same : (e : Space) (a : VReg) (o : ℕ) (l : Lane) → SameLane l (m .vector) u → laneAt e a o m l ≡ laneAt e a o (withFile u m) l
   at-same e a o l s = address-only e (privateIn (fixedOf m)) (m .vector) u a o l (s a)
@@ -91,7 +92,7 @@ module _ (m : State) (u : List ℕ) where
   compared (I.Csr o r a n) = idle
   compared (I.CsrImm o r i n) = idle
   compared (I.Vector o a) = fills (λ l. operation o a) (λ l s. lane-only l (m .vector) u s o (a .vs2) (sourceOf (immediateOf o) (a .src) m) ∙ ap (λ (b : Operand). opLane o u (a .vs2) b l) (source-same (immediateOf o) (a .src)))
-  compared (I.VMove r e) = fills (λ l. move r e) (λ l s. operand-only l (m .vector) u s (sourceOf (extendOf 5) e m) ∙ ap (λ (b : Operand). operandOf u b l) (source-same (extendOf 5) e))
+  compared (I.VMove r e) = fills (λ l. move r e) (λ l s. operand-only l (m .vector) u s (sourceOf extendOf e m) ∙ ap (λ (b : Operand). operandOf u b l) (source-same extendOf e))
   compared (I.VMoveXS r b) =
       record {
         rows = λ s. ap (λ (t : Bool). 10 ⇒ not t ∷ []) (uniform-only (fixedOf m .numt) (active m) (laneOf (m .vector) b) (laneOf u b) (λ l h t. s l h t b));
@@ -109,6 +110,8 @@ module _ (m : State) (u : List ℕ) where
   compared (I.SetRpc r a n) = idle
   compared I.EndPrg = idle
   compared (I.Barrier n) = idle
+  compared (I.RegExt n) = idle
+  compared (I.RegExtI n) = idle
   compared (I.VLoad e k r a n) = record { rows = λ s. rows-same e a n (sizeOf k) s; twin = gives (λ l. load e k r a n) (λ l s. ap (λ (x : ℕ). loaded k x m) (at-same e a n l s)) }
   compared (I.VStore e k a b n) =
       record {

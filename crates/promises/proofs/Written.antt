@@ -23,10 +23,12 @@ use Rattle.warp.specs.Warp.{readX}
 use Rattle.warp.specs.WellFormed.{fixedOkOf, wellFormedOf}
 use Rattle.warp.specs.Facts.{FixedOk}
 use Rattle.warp.proofs.Formed.{fixed-ok}
-use Rattle.definition.specs.State.{State, fixedOf, active, memoryOf, instrAt}
+use Rattle.definition.specs.State.{State, fixedOf, active, memoryOf, instrAt, usedUp}
 use Rattle.definition.specs.Refuse.{mixed, refusalsOf, stepTests}
 use Rattle.definition.specs.Exec.{Effect, goes, writes, stores, effect, effectOf}
-use Rattle.definition.specs.Step.{stepOf}
+use Rattle.definition.specs.Step.{carriedOut, stepOf}
+use Rattle.isa.specs.Prefix.{noPrefix}
+use Rattle.definition.proofs.Used.{tests-used}
 use Rattle.definition.proofs.Sizes.{sizes}
 use Rattle.definition.proofs.Sound.{step-clear, step-taken}
 use Rattle.definition.proofs.Tests.{step-rows}
@@ -34,6 +36,7 @@ use Rattle.promises.specs.Lanes.{isActive, Touches, scalar, lane}
 use Rattle.promises.specs.Written as W
 use Rattle.promises.specs.Written.{Becomes, stays, Gives, Written, LaneWords, OneValue, MoveShares}
 use Rattle.promises.proofs.Stores.{active-of, active-below}
+use Rattle.promises.proofs.Used.{becomes-back, gives-other, gives-back}
 use Rattle.promises.proofs.Twins.{Twin, moves, gives, stores-both, compared}
 
 -- ---- each byte
@@ -56,8 +59,10 @@ written-by m u i a b q z (stores-both t e) j = t z j
 
 pub written : Written
 written k m z j =
-    subst (λ (n : State). Becomes m (memoryOf m .base + j) (getD (m .bytes) j 0) (getD (n .bytes) j 0) (instrAt k m)) (sym (step-taken k m z))
-    (written-by m (m .vector) _ _ _ refl (step-clear k m z .rest) (compared m (m .vector) (instrAt k m) .twin) j)
+    let i : Instr = instrAt k m in
+    subst (λ (n : State). Becomes m (memoryOf m .base + j) (getD (m .bytes) j 0) (getD (n .bytes) j 0) i) (sym (step-taken k m z))
+    (becomes-back noPrefix m
+    (written-by (usedUp m) (m .vector) _ _ _ refl (rw (tests-used m i) (step-clear k m z .rest)) (compared (usedUp m) (m .vector) i .twin) j))
 
 -- ---- an active lane's words
 
@@ -87,7 +92,7 @@ others-by m u i a b n l h (gives {r = c} {f = f} w e) r o =
 others-by m u i a b n l h (stores-both t e) r o = refl
 
 pub lane-words : LaneWords
-lane-words k m z l a = record { given = given; others = λ r o. rw (step-taken k m z) (others-by m (m .vector) _ _ _ lanes l below (compared m (m .vector) (instrAt k m) .twin) r o) }
+lane-words k m z l a = record { given = given; others = λ r o. rw (step-taken k m z) (others-by (usedUp m) (m .vector) _ _ _ lanes l below (compared (usedUp m) (m .vector) (instrAt k m) .twin) r (λ y g. o y (gives-back noPrefix m g))) }
   where
     lanes : fixedOf m .numt ≤ lanesMax
     lanes = fixed-of (m .warp) (step-clear k m z .formed) .lanes .1
@@ -100,7 +105,7 @@ lane-words k m z l a = record { given = given; others = λ r o. rw (step-taken k
 
     given : (r : VReg) (y : ℕ) → r .0 < vectorRegisters → Gives m l (instrAt k m) r y → laneOf (stepOf k m .left .vector) r l ≡ y
     given r y b g =
-        let f = filled m l (instrAt k m) r y g in
+        let f = filled (usedUp m) l (instrAt k m) r y (gives-other noPrefix m g) in
         rw (step-taken k m z, f .is) (write-at (active m) r (f .words) (m .vector) (fixedOf m .numt) l (active-below m l a .0) lanes (active-below m l a .1) (omega (arith, long, below)) ∙ f .at)
 
 -- ---- one value
@@ -133,7 +138,7 @@ module _ (k : List ℕ) (m : State) (r : XReg) (b : VReg) (is : instrAt k m ≡ 
   answer : first (stepTests k m) ≡ 0 → stepOf k m .code ≡ first (10 ⇒ mixed words m ∷ [])
   answer z = step-rows k m ∙ first-silent (stepTests k m) (refusalsOf (instrAt k m) m) (zero-silent (stepTests k m) refl z) ∙ own
 
-  moved : (r .0 ≡ 0 → ⊥) → r .0 < length (m .warp .x) → readX r (effect (effectOf (I.VMoveXS r b) m) m .warp) ≡ valueOf (fixedOf m .numt) (active m) words
+  moved : (r .0 ≡ 0 → ⊥) → r .0 < length (m .warp .x) → readX r (carriedOut (I.VMoveXS r b) (usedUp m) .warp) ≡ valueOf (fixedOf m .numt) (active m) words
   unfolding effectOf
   moved n h = rw (ne-eqb (r .0) 0 n) (getD-set-same (m .warp .x) (r .0) (valueOf (fixedOf m .numt) (active m) words) 0 h)
 

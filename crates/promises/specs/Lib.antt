@@ -3,6 +3,8 @@ pub mod Splits
 pub mod Lanes
 pub mod Written
 pub mod Private
+pub mod Prefixes
 pub mod Runs
 pub mod Refusals
 pub mod Determined
+pub mod High

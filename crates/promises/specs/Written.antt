@@ -48,7 +48,7 @@ pub data Becomes (m : State) (a old new : ℕ) : Instr → Type 0 where
 -- the instruction gives register r of lane l the word y; no other instruction writes a vector register
 pub data Gives (m : State) (l : Lane) : Instr → VReg → ℕ → Type 0 where
   operation : (o : Op) (a : VecArgs) → Gives m l (I.Vector o a) (a .vd) (applyOf o (laneOf (m .vector) (a .vs2) l) (operandOf (m .vector) (sourceOf (immediateOf o) (a .src) m) l))
-  move : (r : VReg) (s : Source) → Gives m l (I.VMove r s) r (operandOf (m .vector) (sourceOf (extendOf 5) s m) l)
+  move : (r : VReg) (s : Source) → Gives m l (I.VMove r s) r (operandOf (m .vector) (sourceOf extendOf s m) l)
   scalar : (r : VReg) (a : XReg) → Gives m l (I.VMoveSX r a) r (xOf a m)
   number : (r : VReg) → Gives m l (I.Vid r) r (l .0)
   load : (s : Space) (k : LoadOp) (r a : VReg) (n : ℕ) → Gives m l (I.VLoad s k r a n) r (loadOf k (memoryOf m) (laneAt s a n m l))

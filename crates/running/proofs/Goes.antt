@@ -9,20 +9,21 @@ use lib.Bits.{bitAnd, and-le-r}
 use lib.Count.{ones}
 use Rattle.isa.specs.declared.CsrOp.{CsrOp}
 use Rattle.isa.specs.declared.XReg.{XReg}
+use Rattle.isa.specs.Prefix.{prefix}
 use Rattle.warp.specs.declared.Split.{Split}
 use Rattle.warp.specs.declared.Warp.{Warp}
 use Rattle.lanes.specs.Lanes.{lanesMax}
-use Rattle.warp.specs.Warp.{splitCount, zeroSplit, setX, withPc, withRpc, withPrint, withStop, withSplits, writeX, next, linked}
+use Rattle.warp.specs.Warp.{splitCount, zeroSplit, setX, withPc, withRpc, withPrint, withStop, withSplits, withPrefix, writeX, next, linked}
 use Rattle.warp.specs.Splits.{opened, openOf, parted, lastSplit, turned, turnOf, closeOf, joinOf, setRpcOf}
 use Rattle.warp.proofs.SplitLaws.{join-none, join-off, join-turn, join-close, parted-none, parted-all, parted-opens}
 use Rattle.warp.specs.Csr.{isPrint, csrAt, csrNew, csrDone, withCsr, writesOf}
 use Rattle.warp.proofs.CsrLaws.{csr-reads, csr-writes}
 use Rattle.warp.proofs.Moves.{cut-two}
 use Rattle.word.specs.Word.{addOf, extendOf, flagOf}
-use Rattle.layout.specs.Words.{movingCount, flatCount, rpcAt, printAt, endedAt, waitingAt, pcIn, maskIn, rpcIn, depthIn, endedIn, waitingIn, splitAt, warpOf, soundOf}
+use Rattle.layout.specs.Words.{movingCount, flatCount, rpcAt, printAt, endedAt, waitingAt, prefixAt, bitsAt, pcIn, maskIn, rpcIn, depthIn, endedIn, waitingIn, splitAt, warpOf, soundOf}
 use Rattle.running.specs.Goes.{goIn, nextIn, resumeIn, csrIn, Goes}
 use Rattle.layout.specs.Lent.{putSplit}
-use Rattle.layout.proofs.Lists.{seven}
+use Rattle.layout.proofs.Lists.{moving-cells}
 use Rattle.layout.proofs.Splits.{flag-bit, flag-is, splits-get, splits-set, phases-put}
 use Rattle.layout.proofs.Words.{sound-parts, sound-whole}
 
@@ -38,11 +39,11 @@ x-warp g h x s r y = refl
 module _ (g h x s : List ℕ) (z : length h ≡ movingCount) where
   pub go-warp : (p : ℕ) → warpOf g (goIn p h) x s ≡ withPc p (warpOf g h x s)
   unfolding warpOf
-  go-warp p = rw (seven h z)
+  go-warp p = rw (moving-cells h z)
 
   pub next-warp : warpOf g (nextIn h) x s ≡ next (warpOf g h x s)
   unfolding warpOf
-  next-warp = rw (seven h z)
+  next-warp = rw (moving-cells h z)
 
 -- ---- PRINT or RPC
 
@@ -51,8 +52,8 @@ unfolding warpOf
 csr-warp n y g h x s z = go (isPrint n)
   where
     go : (b : Bool) → warpOf g (cond b (set h printAt y) (set h rpcAt y)) x s ≡ cond b (withPrint y (warpOf g h x s)) (withRpc y (warpOf g h x s))
-    go true = rw (seven h z)
-    go false = rw (seven h z)
+    go true = rw (moving-cells h z)
+    go false = rw (moving-cells h z)
 
 -- the other words are as they were
 abbrev Unmoved : List ℕ → List ℕ → Type 0
@@ -62,8 +63,8 @@ csr-keeps : (n y : ℕ) (h : List ℕ) → length h ≡ movingCount → Unmoved 
 csr-keeps n y h z = go (isPrint n)
   where
     go : (b : Bool) → Unmoved h (cond b (set h printAt y) (set h rpcAt y))
-    go true = (simp length-set z, rw (seven h z), rw (seven h z), rw (seven h z))
-    go false = (simp length-set z, rw (seven h z), rw (seven h z), rw (seven h z))
+    go true = (simp length-set z, rw (moving-cells h z), rw (moving-cells h z), rw (moving-cells h z))
+    go false = (simp length-set z, rw (moving-cells h z), rw (moving-cells h z), rw (moving-cells h z))
 
 csr-last : (n y : ℕ) (r : XReg) (o : ℕ) (w : Warp) → withCsr n y (next (writeX r o w)) ≡ next (writeX r o (withCsr n y w))
 csr-last n y r o w = go (isPrint n)
@@ -82,7 +83,7 @@ module _ (g h x s : List ℕ) (z : length h ≡ movingCount) (n : length s ≡ f
   still-goes f l d e w o = record { long = l; room = n; goes = o; sound = λ a. rw (d, e, w) a }
 
   pub go-goes : (f : Warp → Warp) (p : ℕ) → h' ≡ goIn p h → withPc p (warpOf g h x' s) ≡ f (warpOf g h x s) → Goes f g h x s h' x' s
-  go-goes f p eh o = still-goes f (simp (eh, length-set) z) (rw (eh, seven h z)) (rw (eh, seven h z)) (rw (eh, seven h z)) (rw (eh, go-warp g h x' s z p) o)
+  go-goes f p eh o = still-goes f (simp (eh, length-set) z) (rw (eh, moving-cells h z)) (rw (eh, moving-cells h z)) (rw (eh, moving-cells h z)) (rw (eh, go-warp g h x' s z p) o)
 
   pub next-goes : (f : Warp → Warp) → h' ≡ nextIn h → next (warpOf g h x' s) ≡ f (warpOf g h x s) → Goes f g h x s h' x' s
   unfolding warpOf
@@ -100,9 +101,9 @@ module _ (g h x s : List ℕ) (z : length h ≡ movingCount) (n : length s ≡ f
       record {
         long = simp (eh, length-set) z;
         room = n;
-        goes = rw (eh, seven h z, flag-bit e, flag-bit b);
+        goes = rw (eh, moving-cells h z, flag-bit e, flag-bit b);
         sound = λ o. let p = sound-parts h s o in
-            sound-whole h' s (record { deep = rw (eh, seven h z) (p .deep); ended = rw (eh, seven h z) (flag-is e); waiting = rw (eh, seven h z) (flag-is b); phases = p .phases });
+            sound-whole h' s (record { deep = rw (eh, moving-cells h z) (p .deep); ended = rw (eh, moving-cells h z) (flag-is e); waiting = rw (eh, moving-cells h z) (flag-is b); phases = p .phases });
       }
 
   -- ---- SETRPC and CSRs
@@ -111,7 +112,7 @@ module _ (g h x s : List ℕ) (z : length h ≡ movingCount) (n : length s ≡ f
       → Goes (setRpcOf rd rs1 i) g h x s h' x' s
   unfolding warpOf setRpcOf
   setrpc-goes rd rs1 i y a b ea eb ey ex eh =
-      still-goes (setRpcOf rd rs1 i) (simp (eh, length-set) z) (rw (eh, seven h z)) (rw (eh, seven h z)) (rw (eh, seven h z)) (rw (eh, ex, ey, ea, eb, seven h z))
+      still-goes (setRpcOf rd rs1 i) (simp (eh, length-set) z) (rw (eh, moving-cells h z)) (rw (eh, moving-cells h z)) (rw (eh, moving-cells h z)) (rw (eh, ex, ey, ea, eb, moving-cells h z))
 
   module _ (op : CsrOp) (c : ℕ) (rd : XReg) (rs1 y old : ℕ) (eo : old ≡ csrAt c (warpOf g h x s)) (ex : x' ≡ setX rd old x) where
     pub csr-goes-read : writesOf op rs1 ≡ false → h' ≡ nextIn h → Goes (csrDone op c rd rs1 y) g h x s h' x' s
@@ -122,8 +123,15 @@ module _ (g h x s : List ℕ) (z : length h ≡ movingCount) (n : length s ≡ f
     csr-goes-write m h₁ t em e₁ eh =
         let z₁ : length (nextIn h) ≡ movingCount = simp length-set z in
         let k = csr-keeps c m (nextIn h) z₁ in
-        still-goes (csrDone op c rd rs1 y) (rw (eh, e₁) (k .0)) (rw (eh, e₁, k .1, seven h z)) (rw (eh, e₁, k .2, seven h z)) (rw (eh, e₁, k .3, seven h z))
+        still-goes (csrDone op c rd rs1 y) (rw (eh, e₁) (k .0)) (rw (eh, e₁, k .1, moving-cells h z)) (rw (eh, e₁, k .2, moving-cells h z)) (rw (eh, e₁, k .3, moving-cells h z))
         (rw (eh, e₁, csr-warp c m g (nextIn h) x' s z₁, next-warp g h x' s z, ex, x-warp g h x s rd old, csr-last c m rd old (warpOf g h x s), em, eo) (csr-writes op c rd rs1 y (warpOf g h x s) t))
+
+-- ---- the pending prefix
+
+pub prefix-goes : (g h x s : List ℕ) → length h ≡ movingCount → length s ≡ flatCount → (h' : List ℕ) (k b : ℕ) → h' ≡ set (set h prefixAt k) bitsAt b → Goes (withPrefix (prefix k b)) g h x s h' x s
+unfolding warpOf
+prefix-goes g h x s z n h' k b eh =
+    still-goes g h x s z n h' x (withPrefix (prefix k b)) (simp (eh, length-set) z) (rw (eh, moving-cells h z)) (rw (eh, moving-cells h z)) (rw (eh, moving-cells h z)) (rw (eh, moving-cells h z))
 
 -- ---- splits
 
@@ -136,9 +144,9 @@ module _ (g h x s : List ℕ) (z : length h ≡ movingCount) (n : length s ≡ f
       record {
         long = simp (eh, length-set) z;
         room = ap length es ∙ simp length-set n;
-        goes = rw (es, splits-set s k q lt n, eh, seven h z) o;
+        goes = rw (es, splits-set s k q lt n, eh, moving-cells h z) o;
         sound = λ a. let c = sound-parts h s a in
-            sound-whole h' s' (record { deep = rw (eh, seven h z) le; ended = rw (eh, seven h z) (c .ended); waiting = rw (eh, seven h z) (c .waiting); phases = rw es (phases-put s k q lt n (c .phases)) });
+            sound-whole h' s' (record { deep = rw (eh, moving-cells h z) le; ended = rw (eh, moving-cells h z) (c .ended); waiting = rw (eh, moving-cells h z) (c .waiting); phases = rw es (phases-put s k q lt n (c .phases)) });
       }
 
 module _ (g h x s : List ℕ) (z : length h ≡ movingCount) (n : length s ≡ flatCount) (h' : List ℕ) where

@@ -1,6 +1,7 @@
 // What moves a running warp, on its lent words: registers, PC, splits and CSRs.
 use isa::CsrOp;
 use isa::XReg;
+use layout::BITS;
 use layout::DEPTH;
 use layout::FIXED;
 use layout::FLAT;
@@ -15,6 +16,7 @@ use layout::NUMT;
 use layout::NUMW;
 use layout::PC;
 use layout::PDS;
+use layout::PREFIX;
 use layout::PRINT;
 use layout::RPC;
 use layout::SCALARS;
@@ -31,8 +33,9 @@ ghost use lib.ListN.{length, getD};
 ghost use lib.Bits.{bitAnd};
 ghost use lib.Count.{ones};
 ghost use Rattle.isa.specs.Bounds.{scalarRegisters};
+ghost use Rattle.isa.specs.Prefix.{prefix};
 ghost use Rattle.lanes.specs.Lanes.{lanesMax};
-ghost use Rattle.warp.specs.Warp.{splitCount, setX, linked};
+ghost use Rattle.warp.specs.Warp.{splitCount, setX, linked, withPrefix};
 ghost use Rattle.warp.specs.Facts.{FixedOk};
 ghost use Rattle.warp.specs.Splits.{openOf, parted, joinOf, setRpcOf};
 ghost use Rattle.warp.specs.Csr.{csrAt, csrNew, csrDone, writesOf};
@@ -78,6 +81,15 @@ pub fn link(h: &mut [u32; MOVING], x: &mut [u32; SCALARS], rd: XReg, p: u32)
     let q = word::add(h[PC], 4);
     put_x(x, rd, q);
     h[PC] = p;
+}
+
+// The pending prefix: its kind and its bits.
+pub fn put_prefix(h: &mut [u32; MOVING], kind: u32, bits: u32)
+    requires { ⌜ length (now h) ≡ movingCount ⌝ }
+    ensures { λ _. ⌜ ((g x s : List ℕ) → length s ≡ flatCount → Goes (withPrefix (prefix kind bits)) g (now (h .entry)) x s (now (h .exit)) x s) ⌝ }
+{
+    h[PREFIX] = kind;
+    h[BITS] = bits;
 }
 
 // ---- splits
@@ -193,7 +205,7 @@ fn csr_at(h: &[u32; MOVING], g: &[u32; FIXED], n: u16) -> u32
     table[i]
 }
 
-// CSRRS and CSRRC with field rs1 = 0 write nothing.
+// CSRRS and CSRRC write nothing where rs1 is 0.
 pub fn csr_writes(op: CsrOp, rs1: u8) -> bool
     ensures { λ r. ⌜ r ≡ writesOf op rs1 ⌝ }
 {

@@ -1,4 +1,4 @@
--- A warp saved as 207 words, and restored.
+-- A warp saved as 241 words, and restored.
 use Prim.Native.Nat.{ℕ}
 use mathlib.Core.Bool.{Bool, not, cond}
 use mathlib.Core.List.{List, [], _∷_}

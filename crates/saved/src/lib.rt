@@ -1,4 +1,4 @@
-// A warp as 207 words, and back.
+// A warp as 241 words, and back.
 use answer::Answer;
 use answer::Refusal;
 use layout::DEPTH;

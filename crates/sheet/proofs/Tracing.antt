@@ -10,7 +10,7 @@ use Rattle.big_endian.specs.Layout.{bytesOf}
 use Rattle.definition.specs.State.{State, Outcome, placeOf}
 use Rattle.definition.specs.Step.{stepOf}
 use Rattle.definition.specs.Calls.{Ran, ran, stepsOf, runOf}
-use Rattle.definition.proofs.Target.{step-within}
+use Rattle.definition.proofs.Used.{step-within}
 use Rattle.definition.proofs.Calls.{steps-end, steps-on, steps-stop, run-counted}
 use Rattle.sheet_lines.specs.Sheet.{headSize, lineSize, stepLimit, lineValues, lineBytes, linesOf}
 use Rattle.sheet.specs.Traces.{Traces}

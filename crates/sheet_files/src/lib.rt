@@ -10,7 +10,7 @@ ghost use Rattle.sheet_lines.specs.Compare.{marksStep};
 ghost use Rattle.sheet.specs.Mark.{lentRuns, marking, modelling};
 ghost use Rattle.sheet_files.specs.SheetFiles.{markedOf, modelledOf, lined, lineBuffersOk, markFilesOf};
 
-const FILE_WORDS: usize = 1024;
+const FILE_WORDS: usize = 8192;
 
 // The length of a sheet's line, the refusal's number, and the differing step, 0 where there is none.
 pub struct Line {

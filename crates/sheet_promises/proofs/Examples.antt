@@ -4,11 +4,12 @@ use mathlib.Core.Path.{_≡_, refl}
 use mathlib.Core.List.{List, [], _∷_, _++_, flatten}
 use lib.ListN.{set, replicate}
 use Rattle.isa.specs.Decode.{decodeOf}
-use Rattle.isa.specs.Ventus.{stopWord, endPrgWord}
+use Rattle.isa.specs.Ventus.{warpWord, stopWord, endPrgWord}
+use Rattle.isa.specs.Prefix.{prefixed}
 use Rattle.lanes.specs.Lanes.{fileWords}
 use Rattle.lanes.specs.Mask.{bitAt}
 use Rattle.warp.specs.declared.Launch.{Launch}
-use Rattle.warp.specs.WellFormed.{fixedOkOf, splitOkOf, chainOf, allZero, wellFormedOf}
+use Rattle.warp.specs.WellFormed.{fixedOkOf, splitOkOf, chainOf, allZero, prefixOkOf, wellFormedOf}
 use Rattle.definition.specs.Refuse.{runsOkOf, refusalsOf}
 use Rattle.definition.specs.Exec.{effectOf}
 use Rattle.definition.specs.Step.{stepOf}
@@ -46,10 +47,10 @@ marked-class : Answers kernel model 0 Full 1 cleared
     × Answers kernel [] 16 NoMarks 0 (replicate fileWords 7)
     × Answers kernel (set model 3 18) 16 NoMarks 0 (replicate fileWords 7)
     × Answers (0 ∷ []) model 17 NoMarks 0 cleared
-unfolding markOf ownOf ownEnd lentRunsOf linesOf lineBytes sheetOkOf linesAt compareOf launchOf runOf stepsOf stepOf runsOkOf refusalsOf effectOf wellFormedOf fixedOkOf chainOf splitOkOf allZero bitAt decodeOf stopWord endPrgWord beBytes
+unfolding markOf ownOf ownEnd lentRunsOf linesOf lineBytes sheetOkOf linesAt compareOf launchOf runOf stepsOf stepOf runsOkOf refusalsOf effectOf wellFormedOf fixedOkOf chainOf splitOkOf allZero prefixOkOf bitAt decodeOf prefixed warpWord stopWord endPrgWord beBytes
 marked-class = (refl, refl, refl, refl, refl, refl, refl)
 
 -- and the run's own sheet is that
 own-sheet : sheetOf (ownOf kernel example cleared []) ≡ model
-unfolding sheetOf headOf flatten ownOf ownEnd linesOf lineBytes launchOf stepOf runsOkOf refusalsOf effectOf wellFormedOf fixedOkOf chainOf splitOkOf allZero bitAt decodeOf stopWord endPrgWord beBytes
+unfolding sheetOf headOf flatten ownOf ownEnd linesOf lineBytes launchOf stepOf runsOkOf refusalsOf effectOf wellFormedOf fixedOkOf chainOf splitOkOf allZero prefixOkOf bitAt decodeOf prefixed warpWord stopWord endPrgWord beBytes
 own-sheet = refl

@@ -1,6 +1,6 @@
 // The bench program's work on the examples, on wrong, missing, empty and oversized files, and on the largest that are taken; each folder is a case.
 fn case(card: &[u8], kernel: &[u8], bytes: &[u8]) {
-    let mut vector = [0u32; 1024];
+    let mut vector = [0u32; 8192];
     files::run_files(card, kernel, bytes, &mut vector);
 }
 
@@ -26,6 +26,12 @@ fn examples() {
         b"crossing/kernel.bin",
         b"crossing/data.bin",
     );
+    case(
+        b"extended/card.bin",
+        b"extended/kernel.bin",
+        b"extended/data.bin",
+    );
+    case(b"x64/card.bin", b"x64/kernel.bin", b"x64/data.bin");
 }
 
 // Cards that are missing, or whose length, version or total is wrong.

@@ -94,6 +94,7 @@ fn source_field(s: Source) -> u8 {
         Source::V(r) => r.0,
         Source::X(r) => r.0,
         Source::I(n) => n,
+        Source::Long(n) => (n % 32) as u8,
     }
 }
 
@@ -102,6 +103,7 @@ fn source_form(s: Source) -> u32 {
         Source::V(_) => 0,
         Source::X(_) => 1,
         Source::I(_) => 2,
+        Source::Long(_) => 3,
     }
 }
 
@@ -128,6 +130,8 @@ fn ventus(i: Instr) -> Parts {
         Instr::VBranch(o, a, b, n) => line(b'v', b'b', cond_number(o), 0, a.0, b.0, n as u32),
         Instr::Join => line(b'j', b'n', 0, 0, 0, 0, 0),
         Instr::SetRpc(d, a, n) => line(b'r', b'p', 0, d.0, a.0, 0, n as u32),
+        Instr::RegExt(n) => line(b'r', b'x', 0, 0, 0, 0, n as u32),
+        Instr::RegExtI(n) => line(b'r', b'i', 0, 0, 0, 0, n as u32),
         Instr::EndPrg => line(b'e', b'p', 0, 0, 0, 0, 0),
         Instr::Barrier(n) => line(b'b', b'a', 0, 0, n, 0, 0),
         Instr::VLoad(s, o, d, a, n) => line(

@@ -7,13 +7,13 @@ ghost use lib.ListN.{length};
 ghost use Rattle.io.specs.Counts.{Counts};
 
 // The words of a saved state, and where the open splits, the PC and the mask stand among them.
-pub const STATE_WORDS: usize = 207;
+pub const STATE_WORDS: usize = 241;
 
-const OPEN_AT: usize = 187;
+const OPEN_AT: usize = 219;
 
-const PC_AT: usize = 188;
+const PC_AT: usize = 220;
 
-const MASK_AT: usize = 189;
+const MASK_AT: usize = 221;
 
 // Where a digest starts.
 pub const DIGEST: u32 = 2166136261;
@@ -53,10 +53,10 @@ pub fn data_room() -> [u8; 65537]
     [0; 65537]
 }
 
-pub fn vector_room() -> [u32; 1056]
-    ensures { λ r. ⌜ 1056 ≡ length r ⌝ }
+pub fn vector_room() -> [u32; 8224]
+    ensures { λ r. ⌜ 8224 ≡ length r ⌝ }
 {
-    [0; 1056]
+    [0; 8224]
 }
 
 pub fn words_in(buffer: &[u32], n: u32) -> usize

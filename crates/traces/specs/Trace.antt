@@ -35,7 +35,7 @@ warp m = launchedOf (launchOn 4 m)
 
 -- v1 and v2 in four lanes
 abbrev pub file : List ℕ → List ℕ → List ℕ
-file v1 v2 = replicate 32 0 ++ (v1 ++ (replicate 28 0 ++ (v2 ++ replicate 956 0)))
+file v1 v2 = replicate 32 0 ++ (v1 ++ (replicate 28 0 ++ (v2 ++ replicate 8124 0)))
 
 -- the words of P1 and P2
 abbrev join : ℕ

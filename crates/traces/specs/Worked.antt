@@ -1,4 +1,4 @@
--- Worked steps, beside the trace cards: stores of each size, loads of each kind, private accesses taken and refused, divisions, CSRs read and written.
+-- Worked steps, beside the trace cards: stores of each size, loads of each kind, private accesses taken and refused, divisions, CSRs read and written, words behind prefixes.
 use Prim.Native.Nat.{ℕ}
 use mathlib.Core.List.{List, [], _∷_, _++_}
 use lib.ListN.{getD, take, drop, replicate}
@@ -70,6 +70,13 @@ module _ (M : Machine) where
   abbrev loaded : ℕ → List ℕ
   loaded word = lanes word (0x1002 ∷ 0 ∷ 0x1001 ∷ 0x1005 ∷ []) (replicate 4 9)
 
+  -- words behind prefixes, from the launch on, with v1 = 5, 6, 7, 8 and v2 = 100 in each lane: the answer, the count, what is pending, x7, x40, v2's four lanes
+  abbrev behind : List ℕ → List ℕ
+  behind words =
+      let r : Ran = M .run words 9 (start (5 ∷ 6 ∷ 7 ∷ 8 ∷ []) (replicate 4 100)) in
+      let w : Warp = r .ends .left .warp in
+      r .ends .code ∷ r .steps ∷ w .prefix .kind ∷ w .prefix .bits ∷ getD (w .x) 7 0 ∷ getD (w .x) 40 0 ∷ take 4 (drop 64 (r .ends .left .vector))
+
   -- divisions of v2 by v1: −7 by 2, 7 by 0, −2^31 by −1; lane 1 isn't active
   abbrev divided : ℕ → List ℕ
   divided word = lanes word (2 ∷ 1 ∷ 0 ∷ 0xFFFFFFFF ∷ []) (0xFFFFFFF9 ∷ 5 ∷ 7 ∷ 0x80000000 ∷ [])
@@ -115,6 +122,21 @@ module _ (M : Machine) where
       -- vdiv.vv and vrem.vv v2, v2, v1
       ∷ divided 0x8620A157 gives (0 ∷ 0x80000004 ∷ 0xFFFFFFFD ∷ 5 ∷ 0xFFFFFFFF ∷ 0x80000000 ∷ [])
       ∷ divided 0x8E20A157 gives (0 ∷ 0x80000004 ∷ 0xFFFFFFFF ∷ 5 ∷ 7 ∷ 0 ∷ [])
+      -- xd, then x2: vadd.vi v65, v1, 3 and vadd.vi v2, v65, 1
+      ∷ behind (0x0020200B ∷ 0x0211B0D7 ∷ 0x0800200B ∷ 0x0210B157 ∷ []) gives (5 ∷ 4 ∷ 0 ∷ 0 ∷ 0 ∷ 0 ∷ 9 ∷ 100 ∷ 11 ∷ 12 ∷ [])
+      -- xd, then x1: vadd.vi v97, v1, 1 and vsub.vv v2, v1, v97
+      ∷ behind (0x0030200B ∷ 0x0210B0D7 ∷ 0x0180200B ∷ 0x0A108157 ∷ []) gives (5 ∷ 4 ∷ 0 ∷ 0 ∷ 0 ∷ 0 ∷ 0xFFFFFFFF ∷ 100 ∷ 0xFFFFFFFF ∷ 0xFFFFFFFF ∷ [])
+      -- REGEXTI: vadd.vi v2, v1, -1019, whose bit 10 is its sign; a shift by the low five bits
+      ∷ behind (0x8000300B ∷ 0x0212B157 ∷ []) gives (5 ∷ 2 ∷ 0 ∷ 0 ∷ 0 ∷ 0 ∷ 0xFFFFFC0A ∷ 100 ∷ 0xFFFFFC0C ∷ 0xFFFFFC0D ∷ [])
+      ∷ behind (0xFC00300B ∷ 0x9610B157 ∷ []) gives (5 ∷ 2 ∷ 0 ∷ 0 ∷ 0 ∷ 0 ∷ 10 ∷ 100 ∷ 14 ∷ 16 ∷ [])
+      -- addi x40, x0, 7 and addi x7, x40, 1
+      ∷ behind (0x0010200B ∷ 0x00700413 ∷ 0x0080200B ∷ 0x00140393 ∷ []) gives (5 ∷ 4 ∷ 0 ∷ 0 ∷ 8 ∷ 7 ∷ replicate 4 100)
+      -- refused, and the prefix stays pending: x72, a prefix on a prefix, REGEXTI on a VV form, lw outside, csrrs of GIDX by x32
+      ∷ behind (0x0020200B ∷ 0x00700413 ∷ []) gives (6 ∷ 1 ∷ 1 ∷ 2 ∷ 0 ∷ 0 ∷ replicate 4 100)
+      ∷ behind (0x0000200B ∷ 0x0000200B ∷ []) gives (6 ∷ 1 ∷ 1 ∷ 0 ∷ 0 ∷ 0 ∷ replicate 4 100)
+      ∷ behind (0x0000300B ∷ 0x02108157 ∷ []) gives (6 ∷ 1 ∷ 2 ∷ 0 ∷ 0 ∷ 0 ∷ replicate 4 100)
+      ∷ behind (0x0000200B ∷ 0xFFF02383 ∷ []) gives (9 ∷ 1 ∷ 1 ∷ 0 ∷ 0 ∷ 0 ∷ replicate 4 100)
+      ∷ behind (0x0080200B ∷ 0x808023F3 ∷ []) gives (7 ∷ 1 ∷ 1 ∷ 8 ∷ 0 ∷ 0 ∷ replicate 4 100)
       ∷ []
 
 -- ---- the promise

@@ -1,7 +1,7 @@
 -- What a step does to the splits, and what holds through any number of steps.
 use Prim.Native.Nat.{ℕ, suc, _+_, _-_, _%_, _^_, _≤_, _<_}
 use mathlib.Core.Path.{_≡_, refl, sym, _∙_, ap, subst}
-use mathlib.Core.Bool.{true}
+use mathlib.Core.Bool.{Bool, true, false, cond}
 use mathlib.Core.List.{List}
 use mathlib.Core.Logic.{⊎-elim}
 use native.Mathlib.Nat.{eq-or-lt-of-le}
@@ -13,6 +13,7 @@ use lib.Seq.{getD-set-same, getD-set-other, map-set-same}
 use lib.Bits.{bitAnd, and-le-r}
 use lib.Count.{ones, ones-le}
 use borrow.Author.Tests.{eqb-false}
+use Rattle.isa.specs.declared.Prefix.{Prefix}
 use Rattle.warp.specs.declared.Split.{Split}
 use Rattle.warp.specs.declared.Warp.{Warp}
 use Rattle.answer.proofs.Rows.{both}
@@ -20,7 +21,7 @@ use Rattle.lanes.specs.declared.Lane.{Lane}
 use Rattle.lanes.specs.Mask.{bitAt}
 use Rattle.lanes.proofs.MaskLaws.{cut-bit, cut-ones, ones-pos}
 use Rattle.lanes.specs.Lanes.{lanesMax}
-use Rattle.warp.specs.Warp.{splitCount, zeroSplit}
+use Rattle.warp.specs.Warp.{splitCount, zeroSplit, withPrefix}
 use Rattle.warp.specs.WellFormed.{splitOkOf, chainOf}
 use Rattle.warp.specs.Splits.{opened, openOf, lastSplit, turned, turnOf, closeOf, joinOf}
 use Rattle.warp.proofs.SplitLaws.{by-cond}
@@ -41,9 +42,13 @@ pub record MoveLeaves (w v : Warp) : Type 0 where
   pub mask : v .mask ≡ w .mask
   pub fixed : v .fixed ≡ w .fixed
 
+pub unmoved : (w : Warp) → MoveLeaves w w
+unmoved w = record { splits = refl; depth = refl; mask = refl; fixed = refl }
+
+-- up to what no split has part in, as the pending prefix
 pub data Moves (w v : Warp) : Type 0 where
-  opens : (e p : ℕ) → Cuts e p w → v ≡ openOf e p w → Moves w v
-  joins : v ≡ joinOf w → Moves w v
+  opens : (e p : ℕ) → Cuts e p w → MoveLeaves (openOf e p w) v → Moves w v
+  joins : MoveLeaves (joinOf w) v → Moves w v
   leaves : MoveLeaves w v → Moves w v
 
 -- what every step keeps of the splits
@@ -158,8 +163,8 @@ held-join w h =
 
 -- What is held is held after a step.
 pub held : (w v : Warp) → Held w → Moves w v → Held v
-held w v h (opens e p o q) = rw q (held-open e p w h o)
-held w v h (joins q) = rw q (held-join w h)
+held w v h (opens e p o l) = held-leaves (openOf e p w) v (held-open e p w h o) l
+held w v h (joins l) = held-leaves (joinOf w) v (held-join w h) l
 held w v h (leaves l) = held-leaves w v h l
 
 -- ---- the mask comes back
@@ -198,12 +203,22 @@ after-join k m w u =
     (λ s. still (record { above = u .above; full = full-set (w .splits) (w .depth - 1) k (turned (lastSplit w)) refl ∙ u .full })))
     (λ q. still (record { above = u .above; full = u .full })))
 
-pub moved-after : (k m : ℕ) (w v : Warp) → Under k m w → Moves w v → After k m v
+under-open : (k m e p : ℕ) (w : Warp) → Under k m w → Under k m (openOf e p w)
 unfolding openOf
-moved-after k m w v u (opens e p o q) =
-    rw q (still (record { above = omega arith; full = ap (λ (s : Split). s .full) (getD-set-other (w .splits) (w .depth) k _ zeroSplit (omega arith)) ∙ u .full }))
-moved-after k m w v u (joins q) = rw q (after-join k m w u)
-moved-after k m w v u (leaves l) = still (record { above = rw (l .depth) (u .above); full = rw (l .splits) (u .full) })
+under-open k m e p w u =
+    record { above = omega arith; full = ap (λ (s : Split). s .full) (getD-set-other (w .splits) (w .depth) k _ zeroSplit (omega arith)) ∙ u .full }
+
+under-leaves : (k m : ℕ) (w v : Warp) → Under k m w → MoveLeaves w v → Under k m v
+under-leaves k m w v u l = record { above = rw (l .depth) (u .above); full = rw (l .splits) (u .full) }
+
+after-leaves : (k m : ℕ) (w v : Warp) → After k m w → MoveLeaves w v → After k m v
+after-leaves k m w v (still u) l = still (under-leaves k m w v u l)
+after-leaves k m w v (back d e) l = back (l .depth ∙ d) (l .mask ∙ e)
+
+pub moved-after : (k m : ℕ) (w v : Warp) → Under k m w → Moves w v → After k m v
+moved-after k m w v u (opens e p o l) = still (under-leaves k m (openOf e p w) v (under-open k m e p w u) l)
+moved-after k m w v u (joins l) = after-leaves k m (joinOf w) v (after-join k m w u) l
+moved-after k m w v u (leaves l) = still (under-leaves k m w v u l)
 
 begun : (e p : ℕ) (w : Warp) → Held w → Cuts e p w → Under (w .depth) (w .mask) (openOf e p w)
 unfolding openOf
@@ -224,9 +239,41 @@ along k m w v u (on {v = x} p s a) = stays (moved-after k m x v (along k m w x u
     stays (back d e) = absurd (omega arith)
 
 -- When the count of open splits first falls back to what it was before a split, the mask is the one held just before that split.
-pub mask-restored : (e p : ℕ) (w u z : Warp) → Held w → Cuts e p w → OpenAbove (w .depth) (openOf e p w) u → Moves u z → z .depth ≤ w .depth → z .mask ≡ w .mask
-mask-restored e p w u z h o a s d = falls (moved-after (w .depth) (w .mask) u z (along (w .depth) (w .mask) (openOf e p w) u (begun e p w h o) a) s)
+pub mask-restored : (e p : ℕ) (w v u z : Warp) → Held w → Cuts e p w → MoveLeaves (openOf e p w) v → OpenAbove (w .depth) v u → Moves u z → z .depth ≤ w .depth → z .mask ≡ w .mask
+mask-restored e p w v u z h o l a s d =
+    falls (moved-after (w .depth) (w .mask) u z (along (w .depth) (w .mask) v u (under-leaves (w .depth) (w .mask) (openOf e p w) v (begun e p w h o) l) a) s)
   where
     falls : After (w .depth) (w .mask) z → z .mask ≡ w .mask
     falls (still y) = absurd (omega arith)
     falls (back x y) = y
+
+-- ---- the pending prefix has no part in a move
+
+open-prefix : (q : Prefix) (e p : ℕ) (w : Warp) → openOf e p (withPrefix q w) ≡ withPrefix q (openOf e p w)
+unfolding openOf
+open-prefix q e p w = refl
+
+prefix-cond : (q : Prefix) (b : Bool) (x y u v : Warp) → u ≡ withPrefix q x → v ≡ withPrefix q y → cond b u v ≡ withPrefix q (cond b x y)
+prefix-cond q true x y u v e f = e
+prefix-cond q false x y u v e f = f
+
+join-prefix : (q : Prefix) (w : Warp) → joinOf (withPrefix q w) ≡ withPrefix q (joinOf w)
+unfolding joinOf
+join-prefix q w =
+    prefix-cond q (eqb (w .depth) 0) _ _ _ _ refl
+    (prefix-cond q (eqb (w .pc) (lastSplit w .rpc)) _ _ _ _ (prefix-cond q (lastSplit w .phaseTwo) _ _ _ _ refl refl) refl)
+
+leaves-prefix : (q : Prefix) (w u v : Warp) → u ≡ withPrefix q w → MoveLeaves u v → MoveLeaves w v
+leaves-prefix q w u v e l =
+    record {
+      splits = l .splits ∙ ap (λ (x : Warp). x .splits) e;
+      depth = l .depth ∙ ap (λ (x : Warp). x .depth) e;
+      mask = l .mask ∙ ap (λ (x : Warp). x .mask) e;
+      fixed = l .fixed ∙ ap (λ (x : Warp). x .fixed) e;
+    }
+
+pub moves-unprefixed : (q : Prefix) (w v : Warp) → Moves (withPrefix q w) v → Moves w v
+moves-unprefixed q w v (opens e p c l) =
+    opens e p (record { within = c .within; some = c .some; strict = c .strict; aligned = c .aligned }) (leaves-prefix q (openOf e p w) _ v (open-prefix q e p w) l)
+moves-unprefixed q w v (joins l) = joins (leaves-prefix q (joinOf w) _ v (join-prefix q w) l)
+moves-unprefixed q w v (leaves l) = leaves (leaves-prefix q w _ v refl l)

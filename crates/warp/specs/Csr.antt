@@ -51,7 +51,7 @@ csrAt n w = getD (csrs w) (n - 0x800) 0
 abbrev pub withCsr : ℕ → ℕ → Warp → Warp
 withCsr n y w = cond (isPrint n) (withPrint y w) (withRpc y w)
 
--- CSRRS and CSRRC with field rs1 = 0 write nothing
+-- CSRRS and CSRRC write nothing where rs1 is 0: the register's number, or the field of the immediate forms
 abbrev pub writesOf : CsrOp → ℕ → Bool
 writesOf Rw rs1 = true
 writesOf Rs rs1 = not (eqb rs1 0)

@@ -8,7 +8,8 @@ use Rattle.warp.specs.declared.Fixed.{Fixed}
 use Rattle.warp.specs.declared.Warp.{Warp}
 use Rattle.lanes.specs.Lanes.{lanesMax}
 use Rattle.warp.specs.Warp.{splitCount, maxWarps}
-use Rattle.warp.specs.WellFormed.{fixedOkOf, chainOf, allZero}
+use Rattle.isa.specs.Prefix.{pending}
+use Rattle.warp.specs.WellFormed.{fixedOkOf, chainOf, allZero, prefixOkOf}
 
 pub record FixedOk (f : Fixed) : Type 0 where
   pub lanes : (1 ≤ f .numt) × (f .numt ≤ lanesMax)
@@ -28,3 +29,5 @@ pub record Formed (w : Warp) : Type 0 where
   pub one : not (w .ended && w .waiting) ≡ true
   pub chain : chainOf (w .fixed .launchMask) (w .splits) (w .depth) (w .mask) ≡ true
   pub quiet : not ((w .ended || w .waiting) && ltb 0 (w .depth)) ≡ true
+  pub prefix : prefixOkOf (w .prefix) ≡ true
+  pub free : not ((w .ended || w .waiting) && pending (w .prefix)) ≡ true

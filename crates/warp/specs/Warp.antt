@@ -6,6 +6,8 @@ use lib.Dec.{eqb}
 use lib.ListN.{getD, set, replicate}
 use Rattle.isa.specs.declared.XReg.{XReg}
 use Rattle.isa.specs.Bounds.{scalarRegisters}
+use Rattle.isa.specs.declared.Prefix.{Prefix}
+use Rattle.isa.specs.Prefix.{prefix, noPrefix}
 use Rattle.warp.specs.declared.Split.{Split}
 use Rattle.warp.specs.declared.Fixed.{Fixed}
 use Rattle.warp.specs.declared.Launch.{Launch}
@@ -62,6 +64,7 @@ zeroWarp =
       print = 0;
       ended = false;
       waiting = false;
+      prefix = noPrefix;
       fixed = zeroFixed;
     }
 
@@ -70,7 +73,7 @@ zeroWarp =
 -- registers, PC, RPC and PRINT
 abbrev pub withScalars : List ℕ → ℕ → ℕ → ℕ → Warp → Warp
 withScalars x pc rpc print w =
-    record { x = x; splits = w .splits; depth = w .depth; pc = pc; mask = w .mask; rpc = rpc; print = print; ended = w .ended; waiting = w .waiting; fixed = w .fixed }
+    record { x = x; splits = w .splits; depth = w .depth; pc = pc; mask = w .mask; rpc = rpc; print = print; ended = w .ended; waiting = w .waiting; prefix = w .prefix; fixed = w .fixed }
 
 abbrev pub withX : List ℕ → Warp → Warp
 withX x w = withScalars x (w .pc) (w .rpc) (w .print) w
@@ -87,12 +90,17 @@ withPrint p w = withScalars (w .x) (w .pc) (w .rpc) p w
 -- ended and waiting
 abbrev pub withStop : Bool → Bool → Warp → Warp
 withStop e b w =
-    record { x = w .x; splits = w .splits; depth = w .depth; pc = w .pc; mask = w .mask; rpc = w .rpc; print = w .print; ended = e; waiting = b; fixed = w .fixed }
+    record { x = w .x; splits = w .splits; depth = w .depth; pc = w .pc; mask = w .mask; rpc = w .rpc; print = w .print; ended = e; waiting = b; prefix = w .prefix; fixed = w .fixed }
 
 -- the split records, how many are open, and the active mask
 abbrev pub withSplits : List Split → ℕ → ℕ → Warp → Warp
 withSplits ss d m w =
-    record { x = w .x; splits = ss; depth = d; pc = w .pc; mask = m; rpc = w .rpc; print = w .print; ended = w .ended; waiting = w .waiting; fixed = w .fixed }
+    record { x = w .x; splits = ss; depth = d; pc = w .pc; mask = m; rpc = w .rpc; print = w .print; ended = w .ended; waiting = w .waiting; prefix = w .prefix; fixed = w .fixed }
+
+-- the pending prefix
+abbrev pub withPrefix : Prefix → Warp → Warp
+withPrefix p w =
+    record { x = w .x; splits = w .splits; depth = w .depth; pc = w .pc; mask = w .mask; rpc = w .rpc; print = w .print; ended = w .ended; waiting = w .waiting; prefix = p; fixed = w .fixed }
 
 -- ---- scalar registers and the PC
 
@@ -111,6 +119,10 @@ nextPc w = addOf (w .pc) 4
 
 abbrev pub next : Warp → Warp
 next w = withPc (nextPc w) w
+
+-- a prefix, of kind k with the bits n: it is pending for the next word
+abbrev pub pends : ℕ → ℕ → Warp → Warp
+pends k n w = next (withPrefix (prefix k n) w)
 
 -- a multiple of 4
 abbrev pub aligned : ℕ → Bool

@@ -8,6 +8,8 @@ use Rattle.warp.specs.declared.Split.{Split}
 use Rattle.warp.specs.declared.Fixed.{Fixed}
 use Rattle.warp.specs.declared.Launch.{Launch}
 use Rattle.warp.specs.declared.Warp.{Warp}
+use Rattle.isa.specs.declared.Prefix.{Prefix}
+use Rattle.isa.specs.Prefix.{regExtI, pending}
 use Rattle.answer.specs.Rows.{every, between}
 use Rattle.lanes.specs.Mask.{inside}
 use Rattle.lanes.specs.Lanes.{lanesMax}
@@ -60,6 +62,10 @@ unfoldable pub allZero : List Split → Bool
 allZero [] = true
 allZero (s ∷ ss) = isZero s && allZero ss
 
+-- none, with the bits 0, REGEXT or REGEXTI with 12 bits
+unfoldable pub prefixOkOf : Prefix → Bool
+prefixOkOf p = every (leb (p .kind) regExtI ∷ ltb (p .bits) (2 ^ 12) ∷ (pending p || eqb (p .bits) 0) ∷ [])
+
 unfoldable pub wellFormedOf : Warp → Bool
 wellFormedOf w =
     every
@@ -71,4 +77,6 @@ wellFormedOf w =
     ∷ not (w .ended && w .waiting)
     ∷ chainOf (w .fixed .launchMask) (w .splits) (w .depth) (w .mask)
     ∷ not ((w .ended || w .waiting) && ltb 0 (w .depth))
+    ∷ prefixOkOf (w .prefix)
+    ∷ not ((w .ended || w .waiting) && pending (w .prefix))
     ∷ [])

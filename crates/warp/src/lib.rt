@@ -1,6 +1,8 @@
+use isa::Prefix;
 ghost use mathlib.Core.Path.{_≡_};
 ghost use Prim.Native.Nat.{_^_, _≤_};
 ghost use Rattle.lanes.specs.Lanes.{lanesMax};
+ghost use Rattle.isa.specs.Prefix.{noPrefix};
 ghost use Rattle.warp.specs.Warp.{zeroSplit, zeroFixed, zeroLaunch, zeroWarp};
 ghost use Rattle.warp.specs.WellFormed.{fixedOkOf, launchOkOf};
 
@@ -44,7 +46,7 @@ pub struct Launch {
 
 // depth counts the open splits; the last of them is splits[depth - 1].
 pub struct Warp {
-    pub x: [u32; 32],
+    pub x: [u32; 64],
     pub splits: [Split; 31],
     pub depth: usize,
     pub pc: u32,
@@ -53,6 +55,7 @@ pub struct Warp {
     pub print: u32,
     pub ended: bool,
     pub waiting: bool,
+    pub prefix: Prefix,
     pub fixed: Fixed,
 }
 
@@ -95,13 +98,21 @@ pub fn zero_launch() -> Launch
     Launch { fixed: f, entry: 0 }
 }
 
+// None is pending.
+pub fn no_prefix() -> Prefix
+    ensures { λ r. ⌜ r ≡ noPrefix ⌝ }
+{
+    Prefix { kind: 0, bits: 0 }
+}
+
 pub fn zero_warp() -> Warp
     ensures { λ r. ⌜ r ≡ zeroWarp ⌝ }
 {
     let f = zero_fixed();
     let s = zero_split();
+    let none = no_prefix();
     Warp {
-        x: [0; 32],
+        x: [0; 64],
         splits: [s; 31],
         depth: 0,
         pc: 0,
@@ -110,6 +121,7 @@ pub fn zero_warp() -> Warp
         print: 0,
         ended: false,
         waiting: false,
+        prefix: none,
         fixed: f,
     }
 }

@@ -4,7 +4,7 @@
 
 use linked::{number_or, usage_error, Lent, Linked, Machine, Reference};
 use reference::case::{target_bytes, Case, Job};
-use reference::generate::{all_cases, Rng};
+use reference::generate::{all_cases, Rng, NO_STATE};
 use reference::generate_marks::mark_cases;
 use reference::isa::ENDPRG;
 use reference::table::{Table, NOP};
@@ -145,11 +145,23 @@ impl Pair {
     }
 }
 
-/// What was compared: the answers of each kind of call, and the steps taken.
+/// What was compared: the answers of each kind of call, and the steps taken; and of the single
+/// steps, the prefixes taken by their kind, and the answers to words behind a prefix.
 #[derive(Default)]
 struct Seen {
     answers: BTreeMap<&'static str, BTreeMap<u32, u64>>,
     steps: u64,
+    prefixes: [u64; 2],
+    behind: [BTreeMap<u32, u64>; 2],
+}
+
+/// The kinds of a prefix, as a state has them from 1 on.
+const PREFIXES: [&str; 2] = ["REGEXT", "REGEXTI"];
+
+/// Which kind of prefix is pending in a state, counted from 0.
+fn pending(state: &[u32]) -> Option<usize> {
+    let kind = *state.get(saved::PREFIX_AT)? as usize;
+    (1..=PREFIXES.len()).contains(&kind).then(|| kind - 1)
 }
 
 impl Seen {
@@ -157,16 +169,40 @@ impl Seen {
         *self.answers.entry(kind).or_default().entry(answer).or_default() += 1;
     }
 
+    /// A single step: what was pending before it and is after it, and its answer. Where the state
+    /// was refused, nothing was pending.
+    fn count_prefix(&mut self, before: Option<usize>, after: Option<usize>, answer: u32) {
+        match (before, after) {
+            (_, Some(kind)) if answer == 0 => self.prefixes[kind] += 1,
+            (Some(kind), _) if answer == 0 || answer >= Refusal::NoWord.number() => {
+                *self.behind[kind].entry(answer).or_default() += 1;
+            }
+            _ => {}
+        }
+    }
+
     fn print(&self) {
         for (kind, answers) in &self.answers {
-            let each: Vec<_> = answers.iter().map(|(code, n)| format!("{code}: {n}")).collect();
+            println!("{kind}: {} calls compared; by answer {}", sum(answers), each(answers));
+        }
+        for ((name, taken), answers) in PREFIXES.iter().zip(self.prefixes).zip(&self.behind) {
+            let words = answers.get(&0).copied().unwrap_or(0);
+            let refused = sum(answers) - words;
             println!(
-                "{kind}: {} calls compared; by answer {}",
-                answers.values().sum::<u64>(),
-                each.join(", ")
+                "{name}: {taken} taken; words behind it: {words} taken, {refused} refused; by answer {}",
+                each(answers)
             );
         }
     }
+}
+
+fn sum(answers: &BTreeMap<u32, u64>) -> u64 {
+    answers.values().sum()
+}
+
+fn each(answers: &BTreeMap<u32, u64>) -> String {
+    let each: Vec<_> = answers.iter().map(|(code, n)| format!("{code}: {n}")).collect();
+    each.join(", ")
 }
 
 struct Round<'a> {
@@ -275,8 +311,7 @@ impl Round<'_> {
         data: Vec<u8>,
         budget: u32,
     ) -> Result<(), String> {
-        let words =
-            if self.rng.chance(16) { self.rng.pick(&[0, 1, 206, 208]) } else { saved::WORDS };
+        let words = if self.rng.chance(16) { self.rng.pick(&NO_STATE) } else { saved::WORDS };
         let state = self.words(words as u32);
         let mut pair = self.pair(state, vector, data);
         match self.both(&Call::Launch(card), kernel, &mut pair)? {
@@ -325,10 +360,14 @@ impl Round<'_> {
             if left == 0 && matches!(call, Call::Step) {
                 return Ok(());
             }
+            let before = pending(&pair.linked.state);
             let code = self.both(&call, kernel, pair)?;
             let taken = match call {
                 Call::Run(_) => pair.linked.words[0],
-                _ => u32::from(code == 0),
+                _ => {
+                    self.seen.count_prefix(before, pending(&pair.linked.state), code);
+                    u32::from(code == 0)
+                }
             };
             self.seen.steps += u64::from(taken);
             left -= taken;

@@ -28,7 +28,7 @@ other-spec =
     (λ c. simp (c .before .match .keys10) (c .csr .ensures))
     (λ c. simp (c .before .match .keys11) (c .vector .ensures))
     (λ c. simp (c .before .match .keys12) (c .splits .ensures))
-    (λ c. simp (c .before .match .keys13) (c .stop .ensures))
+    (λ c. simp (c .before .match .keys13) (c .warp-word .ensures))
     (λ c. simp (c .before .match .keys14) (c .lane-access .ensures))
     (λ c. simp (c .before .match .keys15) (c .private .ensures))
     (λ c.

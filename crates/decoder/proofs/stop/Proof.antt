@@ -1,7 +1,6 @@
 use mathlib.Core.Path.{_∙_}
 use mathlib.Core.List.{[]}
 use borrow.Author.Needs.{needs}
-use borrow.Author.Tests.{eq-eqb, ne-eqb}
 use Rattle.isa.specs.declared.Instr.the-variants.{Refused}
 use Rattle.isa.specs.Fields.{fieldsOf}
 use Rattle.isa.specs.Table.{on}
@@ -16,10 +15,7 @@ unfolding rowOf stopWord
 stop-spec =
     tie.close
     (tie.spec
-    (λ c. simp (ne-eqb _ _ (c .if1 .taken)))
     (λ c κs. search needs) (λ c κs. search needs)
-    (λ c. c .end-prg .ensures ∙ simp (c .before .match .keys1, c .before .before .if1 .left))
-    (λ c. c .barrier .ensures ∙ simp (c .before .match .keys2, c .before .before .if1 .left))
-    (λ c.
-    let f = fieldsOf (c .before .before .args .w) in
-    rw (eq-eqb (f .funct3) 4 (c .before .if1 .left)) (past (on f) Refused _ stops [] (c .match .rest))))
+    (λ c. c .end-prg .ensures ∙ simp (c .before .match .keys1))
+    (λ c. c .barrier .ensures ∙ simp (c .before .match .keys2))
+    (λ c. let f = fieldsOf (c .before .args .w) in past (on f) Refused _ stops [] (c .match .rest)))

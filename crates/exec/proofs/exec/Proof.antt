@@ -5,7 +5,8 @@ use Rattle.handlers.proofs.Laws.{given, told}
 use Rattle.exec.proofs.Laws.{ready-fixed, ready-lanes}
 use Rattle.handlers.specs.Handles.{putsIn}
 use Rattle.isa.proofs.Words.{auipc-is, branch-is, csr-is, fence-is, jal-is, jalr-is, load-is, lui-is, store-is, vector-is}
-use Rattle.isa.specs.Fields.{fieldsOf, immU, x as xOf}
+use Rattle.isa.specs.Fields.{fieldsOf, immU}
+use Rattle.isa.specs.Wide.{xdIn}
 use Rattle.isa.specs.Kinds.{laneGroups, ofImmediates, ofRegisters, rowOf, scalarGroups, vectorKinds}
 use Rattle.isa.proofs.Laws.{past}
 use Rattle.isa.specs.Table.{on}
@@ -38,7 +39,7 @@ exec-spec =
     (λ c κs. let four = c .before .before .before .before in ((four .before .pre) .lent .long))
     (λ c κs. let four = c .before .before .before .before in let a = (four .before .before .args) in (((four .before .before .pre) .lent .long), ready-fixed (a .g .now) (a .h .now) (a .x .now) (a .s .now) (a .v .now) (a .d .now) (four .before .before .pre)))
     (λ c κs. let four = c .before .before .before .before in let eight = four .before .before .before .before in let a = (eight .before .args) in let f = fieldsOf (a .w) in ((eight .before .pre), rw (lt-leb vectorKinds (a .kind) ((four .before .before .if1) .left)) (sym (past (on f) Refused _ scalarGroups (laneGroups ++ ofRegisters ++ ofImmediates) ((four .before .match) .rest)))))
-    (λ c. let four = c .before .before .before .before in let a = (four .before .before .before .before .args) in let f = fieldsOf (a .w) in told (lui-is (a .kind) (a .w) ((c .before .before .before .before .match) .keys1) refl refl) (given (I.Lui (xOf (f .rd)) (immU f)) (xOf (f .rd)) _ _ (a .g .now) (a .h .now) (a .x .now) (a .s .now) (a .v .now) (a .d .now) _ _ ((c .gives) .ensures .0) ((c .gives) .ensures .1 (a .g .now) (a .s .now) ((four .before .before .before .before .pre) .lent .room)) refl (ap (λ (z : ℕ). goes (putsIn (xOf (f .rd)) (z * 4096) (warpOf (a .g .now) (a .h .now) (a .x .now) (a .s .now)))) (sym ((c .before .before .before .imm-u) .ensures .0)))))
+    (λ c. let four = c .before .before .before .before in let a = (four .before .before .before .before .args) in let f = fieldsOf (a .w) in told (lui-is (a .kind) (a .w) ((c .before .before .before .before .match) .keys1) refl refl) (given (I.Lui (xdIn (a .w)) (immU f)) (xdIn (a .w)) _ _ (a .g .now) (a .h .now) (a .x .now) (a .s .now) (a .v .now) (a .d .now) _ _ ((c .gives) .ensures .0) ((c .gives) .ensures .1 (a .g .now) (a .s .now) ((four .before .before .before .before .pre) .lent .room)) refl (ap (λ (z : ℕ). goes (putsIn (xdIn (a .w)) (z * 4096) (warpOf (a .g .now) (a .h .now) (a .x .now) (a .s .now)))) (sym ((c .before .before .before .imm-u) .ensures .0)))))
     (λ c. let four = c .before .before .before .before in let a = (four .before .before .before .args) in told (auipc-is (a .kind) (a .w) ((c .before .before .before .match) .keys2) refl refl) ((c .auipc) .ensures (a .g .now) (a .s .now) (a .v .now) (a .d .now) ((four .before .before .before .pre) .lent .room)))
     (λ c. let four = c .before .before .before .before in let a = (four .before .before .before .args) in told (jal-is (a .kind) (a .w) ((c .before .before .before .match) .keys3) refl refl) ((c .jal) .ensures (a .g .now) (a .s .now) (a .v .now) (a .d .now) ((four .before .before .before .pre) .lent .room)))
     (λ c. let four = c .before .before .before .before in let a = (four .before .before .before .args) in told (jalr-is (a .kind) (a .w) ((c .before .before .before .match) .keys4) refl refl refl) ((c .jalr) .ensures (a .g .now) (a .s .now) (a .v .now) (a .d .now) ((four .before .before .before .pre) .lent .room)))

@@ -1,14 +1,18 @@
 use Rattle.lane_handlers.proofs.Laws.{lane-load-arm, lane-store-arm}
-use Rattle.exec.proofs.Laws.{ready-lanes}
+use Rattle.exec.proofs.Laws.{ready-lanes, pended}
 use Rattle.handlers.proofs.Laws.{told}
-use Rattle.isa.proofs.Words.{barrier-is, endprg-is, join-is, pload-is, pstore-is, setrpc-is, vbranch-is, vid-is, vload-is, vmove-is, vmove-sx-is, vmove-xs-is, vstore-is}
-use Rattle.isa.specs.Fields.{fieldsOf}
+use Rattle.isa.proofs.Words.{barrier-is, endprg-is, join-is, pload-is, pstore-is, regext-is, regexti-is, setrpc-is, vbranch-is, vid-is, vload-is, vmove-is, vmove-sx-is, vmove-xs-is, vstore-is}
+use Rattle.isa.specs.Fields.{fieldsOf, immI}
+use Rattle.isa.specs.Prefix.{regExt, regExtI}
+use Rattle.isa.specs.declared.Instr.the-variants as I
 use Rattle.isa.specs.Kinds.{laneGroups, ofImmediates, ofRegisters}
 use Rattle.isa.proofs.Laws.{past}
 use Rattle.isa.specs.Table.{on}
 use Rattle.isa.specs.declared.Instr.the-variants.{Refused}
 use Rattle.isa.specs.declared.Space.the-variants.{Plain, Private}
 use Rattle.layout.proofs.Words.{lent-deep, lent-room}
+use Rattle.definition.specs.Exec.{effectOf}
+use Rattle.definition.specs.Refuse.{refusalsOf}
 use borrow.Author.Needs.{needs}
 use mathlib.Core.List.{_++_}
 use mathlib.Core.Path.{_∙_, refl, sym}
@@ -16,6 +20,7 @@ use Rattle.exec.proofs.lane_word.Statement.{statement}
 use Rattle.exec.proofs.lane_word.Tie as tie
 
 pub lane-word-spec : {M : Type 1} → statement M
+unfolding effectOf refusalsOf
 lane-word-spec =
     tie.close
     (tie.spec
@@ -38,6 +43,8 @@ lane-word-spec =
     (λ c κs. let four = c .before .before .before .before in let a = (four .before .before .before .args) in (ready-lanes (a .g .now) (a .h .now) (a .x .now) (a .s .now) (a .v .now) (a .d .now) ((four .before .before .before .pre) .0)))
     (λ c κs. let four = c .before .before .before .before in let a = (four .before .before .args) in (ready-lanes (a .g .now) (a .h .now) (a .x .now) (a .s .now) (a .v .now) (a .d .now) ((four .before .before .pre) .0)))
     (λ c κs. let four = c .before .before .before .before in let a = (four .before .before .before .args) in (ready-lanes (a .g .now) (a .h .now) (a .x .now) (a .s .now) (a .v .now) (a .d .now) ((four .before .before .before .pre) .0)))
+    (λ c κs. let four = c .before .before .before .before in (four .before .pre) .0 .lent .long)
+    (λ c κs. let four = c .before .before .before .before in (four .before .pre) .0 .lent .long)
     (λ c κs. let four = c .before .before .before .before in let a = (four .before .before .args) in let f = fieldsOf (a .w) in ((four .before .before .pre) .0 .lent .long, (four .before .before .pre) .1 ∙ sym (past (on f) Refused _ laneGroups (ofRegisters ++ ofImmediates) ((c .before .before .match) .rest))))
     (λ c. search needs)
     (λ c. let four = c .before .before .before .before in let a = (four .before .before .before .before .args) in told (vbranch-is (a .kind) (a .w) ((c .before .before .before .before .match) .keys1) refl refl refl refl) ((c .vbranch) .ensures (a .x .now) (a .d .now)))
@@ -61,4 +68,6 @@ lane-word-spec =
     (λ c. let four = c .before .before .before .before in let eight = four .before .before .before .before in let a = (eight .before .args) in told (vid-is (a .kind) (a .w) ((four .before .match) .keys12) refl) ((c .before .before .vid) .ensures (a .x .now) (a .s .now) (a .d .now) ((eight .before .pre) .0 .lent .room)))
     (λ c. search needs)
     (λ c. let four = c .before .before .before .before in let eight = four .before .before .before .before in let a = (eight .before .before .args) in told (vmove-is (a .kind) (a .w) ((four .before .before .match) .keys13) refl refl) ((c .before .before .vmove) .ensures (a .s .now) (a .d .now) ((eight .before .before .pre) .0 .lent .room)))
+    (λ c. let four = c .before .before .before .before in let a = (four .before .before .args) in told (regext-is (a .kind) (a .w) ((c .before .before .match) .keys14) refl) (pended (I.RegExt (immI (fieldsOf (a .w)))) regExt (immI (fieldsOf (a .w))) _ (a .g .now) (a .h .now) (a .x .now) (a .s .now) (a .v .now) (a .d .now) _ ((c .pend) .ensures .0) ((c .pend) .ensures .1 (a .g .now) (a .x .now) (a .s .now) ((four .before .before .pre) .0 .lent .room)) refl refl))
+    (λ c. let four = c .before .before .before .before in let a = (four .before .before .args) in told (regexti-is (a .kind) (a .w) ((c .before .before .match) .keys15) refl) (pended (I.RegExtI (immI (fieldsOf (a .w)))) regExtI (immI (fieldsOf (a .w))) _ (a .g .now) (a .h .now) (a .x .now) (a .s .now) (a .v .now) (a .d .now) _ ((c .pend2) .ensures .0) ((c .pend2) .ensures .1 (a .g .now) (a .x .now) (a .s .now) ((four .before .before .pre) .0 .lent .room)) refl refl))
     (λ c. let four = c .before .before .before .before in let a = (four .before .before .before .args) in (c .op-reg) .ensures (a .g .now) (a .s .now) (a .v .now) (a .d .now) ((four .before .before .before .pre) .0 .lent .room)))

@@ -12,15 +12,16 @@ returns c =
 
 returns-2 : tie.Need-returns-2
 returns-2 c =
-    let chain = c .before .before in
+    let prefix = c .before .before .before in
+    let chain = prefix .before .before .before in
     let unused = chain .before .before .before in
     let fixed = unused .before in
     let left = fixed .before .before .before .before in
     let a = left .before .before .before .args in
     let e = left .before .wide .ensures in
     rw e
-    (formed-words (a .g .now) (a .h .now) (a .x .now) (a .s .now) _ _ _ (rw e at (left .if1 .left)) (fixed .fixed-ok .ensures ∙ ap fixedOkOf (fixed .before .fixed-in .ensures))
-    (rw e at (unused .unused-ok .ensures)) (rw e at (chain .chain-ok .ensures)))
+    (formed-words (a .g .now) (a .h .now) (a .x .now) (a .s .now) _ _ _ _ (rw e at (left .if1 .left)) (fixed .fixed-ok .ensures ∙ ap fixedOkOf (fixed .before .fixed-in .ensures))
+    (rw e at (unused .unused-ok .ensures)) (rw e at (chain .chain-ok .ensures)) (prefix .prefix-ok .ensures))
 
 pub words-ok-spec : {M : Type 1} → statement M
 words-ok-spec =
@@ -29,5 +30,6 @@ words-ok-spec =
     (λ c. search needs) (λ c κs. search needs)
     returns
     (λ c. search needs) (λ c. search needs) (λ c κs. search needs) (λ c κs. search needs) (λ c κs. search needs) (λ c. search needs)
-    (λ c. search needs) (λ c κs. search needs) (λ c. search needs) (λ c. search needs)
+    (λ c. search needs) (λ c κs. search needs) (λ c. search needs) (λ c. search needs) (λ c κs. search needs) (λ c. search needs)
+    (λ c. search needs) (λ c. search needs)
     returns-2)

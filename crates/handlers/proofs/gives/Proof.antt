@@ -1,5 +1,6 @@
 use Rattle.handlers.specs.Handles.{putsIn}
-use Rattle.isa.specs.Fields.{fieldsOf, x as xOf}
+use Rattle.isa.specs.Fields.{fieldsOf}
+use Rattle.isa.specs.Wide.{xdIn}
 use Rattle.running.proofs.Goes.{next-goes, x-warp}
 use Rattle.warp.specs.Warp.{next}
 use borrow.Author.Needs.{needs}
@@ -12,4 +13,4 @@ gives-spec =
     tie.close
     (tie.spec
     (λ c κs. search needs) (λ c κs. search needs) (λ c κs. search needs)
-    (λ c. let four = c .before .before .before .before in let a = (four .before .args) in let f = fieldsOf (a .w) in (refl, λ g s n. next-goes g (a .h .now) (a .x .now) s (four .before .pre) n _ _ (putsIn (xOf (f .rd)) (a .y)) ((c .next) .ensures) (ap next (rw ((c .before .before .put-x) .ensures, (c .before .before .before .xd) .ensures .0) (x-warp g (a .h .now) (a .x .now) s (xOf (f .rd)) (a .y)))))))
+    (λ c. let four = c .before .before .before .before in let a = (four .before .args) in let f = fieldsOf (a .w) in (refl, λ g s n. next-goes g (a .h .now) (a .x .now) s (four .before .pre) n _ _ (putsIn (xdIn (a .w)) (a .y)) ((c .next) .ensures) (ap next (rw ((c .before .before .put-x) .ensures, (c .before .before .before .xd) .ensures .0) (x-warp g (a .h .now) (a .x .now) s (xdIn (a .w)) (a .y)))))))

@@ -2,12 +2,10 @@ use native.Mathlib.Omega.{arith}
 use borrow.Author.Needs.{needs}
 use borrow.Author.Tests.{lt-ltb, le-ltb}
 use Rattle.isa.specs.Fields.{fieldsOf}
-use Rattle.isa.specs.Kinds.{anyCsrWord}
 use Rattle.instruction.proofs.csr.Statement.{statement}
 use Rattle.instruction.proofs.csr.Tie as tie
 
 pub csr-spec : {M : Type 1} → statement M
-unfolding anyCsrWord
 csr-spec =
     tie.close
     (tie.spec

@@ -1,4 +1,4 @@
-use mathlib.Core.Path.{_∙_}
+use mathlib.Core.Path.{_∙_, ap}
 use mathlib.Core.List.{[]}
 use borrow.Author.Needs.{needs}
 use Rattle.isa.specs.declared.Instr.the-variants.{Refused}
@@ -6,6 +6,8 @@ use Rattle.isa.specs.Fields.{fieldsOf}
 use Rattle.isa.specs.Table.{on}
 use Rattle.isa.specs.Kinds.{ofImmediates}
 use Rattle.isa.proofs.Laws.{past}
+use Rattle.isa.specs.Prefix.{onFields}
+use Rattle.isa.specs.Wide.{digitsIn}
 use Rattle.instruction.proofs.immediate_word.Statement.{statement}
 use Rattle.instruction.proofs.immediate_word.Tie as tie
 
@@ -24,4 +26,4 @@ immediate-word-spec =
     (λ c. c .of-immediate4 .ensures ∙ simp (c .before .match .keys7))
     (λ c. c .of-immediate5 .ensures ∙ simp (c .before .match .keys8))
     (λ c. c .of-immediate6 .ensures ∙ simp (c .before .match .keys9))
-    (λ c. let f = fieldsOf (c .before .args .w) in past (on f) Refused _ ofImmediates [] (c .match .rest)))
+    (λ c. let w = c .before .args .w in ap (onFields (digitsIn w)) (past (on (fieldsOf w)) Refused _ ofImmediates [] (c .match .rest))))

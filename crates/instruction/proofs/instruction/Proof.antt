@@ -1,4 +1,4 @@
-use mathlib.Core.Path.{_∙_, sym}
+use mathlib.Core.Path.{_∙_, sym, ap}
 use mathlib.Core.List.{_++_}
 use borrow.Author.Needs.{needs}
 use borrow.Author.Tests.{lt-leb}
@@ -7,7 +7,9 @@ use Rattle.isa.specs.Fields.{fieldsOf}
 use Rattle.isa.specs.Table.{on}
 use Rattle.isa.specs.Kinds.{scalarGroups, laneGroups, ofRegisters, ofImmediates, rowOf}
 use Rattle.isa.proofs.Laws.{past}
-use Rattle.isa.proofs.Words.{vector-is}
+use Rattle.isa.proofs.Words.{csr-is, vector-is}
+use Rattle.isa.specs.Prefix.{onFields}
+use Rattle.isa.specs.Wide.{digitsIn}
 use Rattle.instruction.proofs.instruction.Statement.{statement}
 use Rattle.instruction.proofs.instruction.Tie as tie
 
@@ -41,10 +43,10 @@ instruction-spec =
     (λ c.
     let p = c .before .before in
     rw (p .before .match .keys8, p .rd .ensures .0, c .before .rs1 .ensures .0, c .imm-i3 .ensures .0))
-    (λ c. rw (c .before .match .keys9, c .csr .ensures))
+    (λ c. c .csr .ensures ∙ sym (csr-is (c .before .before .before .args .kind) (c .before .before .before .args .w) (c .before .match .keys9)))
     (λ c.
     let p = c .before .before in
-    let f = fieldsOf (p .before .args .w) in
+    let w = p .before .args .w in
     c .lane-word .ensures
     ∙ rw (lt-leb _ _ (p .if1 .left))
-    (past (on f) Refused _ scalarGroups (laneGroups ++ ofRegisters ++ ofImmediates) (c .before .match .rest))))
+    (ap (onFields (digitsIn w)) (past (on (fieldsOf w)) Refused _ scalarGroups (laneGroups ++ ofRegisters ++ ofImmediates) (c .before .match .rest)))))

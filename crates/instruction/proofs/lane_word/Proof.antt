@@ -1,4 +1,4 @@
-use mathlib.Core.Path.{_∙_}
+use mathlib.Core.Path.{_∙_, ap}
 use mathlib.Core.List.{_++_}
 use borrow.Author.Needs.{needs}
 use Rattle.isa.specs.declared.Instr.the-variants.{Refused}
@@ -6,6 +6,8 @@ use Rattle.isa.specs.Fields.{fieldsOf}
 use Rattle.isa.specs.Table.{on}
 use Rattle.isa.specs.Kinds.{laneGroups, ofRegisters, ofImmediates}
 use Rattle.isa.proofs.Laws.{past}
+use Rattle.isa.specs.Prefix.{onFields}
+use Rattle.isa.specs.Wide.{digitsIn}
 use Rattle.instruction.proofs.lane_word.Statement.{statement}
 use Rattle.instruction.proofs.lane_word.Tie as tie
 
@@ -18,7 +20,7 @@ lane-word-spec =
     (λ c κs. search needs) (λ c κs. search needs) (λ c κs. search needs) (λ c κs. search needs) (λ c κs. search needs) (λ c κs. search needs)
     (λ c κs. search needs) (λ c κs. search needs) (λ c κs. search needs) (λ c κs. search needs) (λ c κs. search needs) (λ c κs. search needs)
     (λ c κs. search needs) (λ c κs. search needs) (λ c κs. search needs) (λ c κs. search needs) (λ c κs. search needs) (λ c κs. search needs)
-    (λ c κs. search needs) (λ c κs. search needs)
+    (λ c κs. search needs) (λ c κs. search needs) (λ c κs. search needs) (λ c κs. search needs)
     (λ c.
     let p = c .before .before in
     rw (p .before .before .match .keys1, p .before .cond .ensures, p .vs1 .ensures .0, c .before .vs2 .ensures .0, c .imm-b .ensures .0))
@@ -44,6 +46,9 @@ lane-word-spec =
     (λ c. rw (c .before .before .match .keys11, c .before .vd3 .ensures .0, c .xs12 .ensures .0))
     (λ c. rw (c .before .match .keys12, c .vd4 .ensures .0))
     (λ c. rw (c .before .before .match .keys13, c .before .vd5 .ensures .0, c .source .ensures))
+    (λ c. rw (c .before .match .keys14, c .imm-i3 .ensures .0))
+    (λ c. rw (c .before .match .keys15, c .imm-i4 .ensures .0))
     (λ c.
-    let f = fieldsOf (c .before .before .args .w) in
-    c .register-word .ensures ∙ past (on f) Refused _ laneGroups (ofRegisters ++ ofImmediates) (c .before .match .rest)))
+    let w = c .before .before .args .w in
+    c .register-word .ensures
+    ∙ ap (onFields (digitsIn w)) (past (on (fieldsOf w)) Refused _ laneGroups (ofRegisters ++ ofImmediates) (c .before .match .rest))))

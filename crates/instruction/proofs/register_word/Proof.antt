@@ -1,10 +1,12 @@
-use mathlib.Core.Path.{_∙_}
+use mathlib.Core.Path.{_∙_, ap}
 use borrow.Author.Needs.{needs}
 use Rattle.isa.specs.declared.Instr.the-variants.{Refused}
 use Rattle.isa.specs.Fields.{fieldsOf}
 use Rattle.isa.specs.Table.{on}
 use Rattle.isa.specs.Kinds.{ofRegisters, ofImmediates}
 use Rattle.isa.proofs.Laws.{past}
+use Rattle.isa.specs.Prefix.{onFields}
+use Rattle.isa.specs.Wide.{digitsIn}
 use Rattle.instruction.proofs.register_word.Statement.{statement}
 use Rattle.instruction.proofs.register_word.Tie as tie
 
@@ -35,5 +37,5 @@ register-word-spec =
     (λ c. c .of-registers17 .ensures ∙ simp (c .before .match .keys17))
     (λ c. c .of-registers18 .ensures ∙ simp (c .before .match .keys18))
     (λ c.
-    let f = fieldsOf (c .before .before .args .w) in
-    c .immediate-word .ensures ∙ past (on f) Refused _ ofRegisters ofImmediates (c .before .match .rest)))
+    let w = c .before .before .args .w in
+    c .immediate-word .ensures ∙ ap (onFields (digitsIn w)) (past (on (fieldsOf w)) Refused _ ofRegisters ofImmediates (c .before .match .rest))))

@@ -7,7 +7,7 @@ returns : tie.Need-returns
 unfolding warpOf
 returns c =
     let four = c .before .before .before .before in
-    let w = four .before .before in
+    let w = four .before .before .before .before in
     rw (w .before .before .before .unflat .ensures, w .before .before .fixed-in .ensures, w .wide .ensures)
 
 pub together-spec : {M : Type 1} → statement M
@@ -15,5 +15,5 @@ together-spec =
     tie.close
     (tie.spec
     (λ c κs. search needs) (λ c κs. search needs) (λ c. search needs) (λ c κs. search needs) (λ c. search needs) (λ c. search needs)
-    (λ c. search needs) (λ c. search needs) (λ c. search needs) (λ c. search needs)
+    (λ c. search needs) (λ c. search needs) (λ c. search needs) (λ c. search needs) (λ c. search needs) (λ c. search needs)
     returns)

@@ -7,11 +7,13 @@
 //! file after the other.
 
 mod mark_statistics;
+mod prefix_statistics;
 
+use prefix_statistics::Prefixes;
 use reference::case::{evaluate, read_file, write_file, Answer, Case};
 use reference::generate::{all_cases, low_mask};
 use reference::generate_marks::mark_cases;
-use reference::isa::{decode, Insn, Space};
+use reference::isa::{decode_after, Insn, Space};
 use reference::state::{Warp, LANES};
 use reference::table::{name, variants};
 use reference::{card, exec, run, saved};
@@ -105,6 +107,7 @@ fn answer(files: &[&str]) -> Result<(), String> {
 
 #[derive(Default)]
 struct Stats {
+    prefixes: Prefixes,
     kinds: BTreeMap<&'static str, u32>,
     codes: BTreeMap<u32, u32>,
     executed: BTreeMap<String, u64>,
@@ -116,6 +119,11 @@ struct Stats {
     deepest: u32,
     steps: u64,
     longest: u32,
+}
+
+/// The instruction at the PC, behind what is pending.
+fn next(warp: &Warp, kernel: &[u32]) -> Option<Insn> {
+    exec::fetch(warp, kernel).and_then(|word| decode_after(warp.prefix, word))
 }
 
 impl Stats {
@@ -130,10 +138,11 @@ impl Stats {
     ) {
         for _ in 0..answer.steps() {
             let before = warp.clone();
-            let insn = exec::fetch(&warp, kernel).and_then(decode).expect("a word that was taken");
+            let insn = next(&warp, kernel).expect("a word that was taken");
             self.count_private(&insn, &warp, vector, data, 0);
             assert_eq!(run::step(&mut warp, kernel, vector, data), 0);
             assert!(warp.well_formed(), "a step broke the state");
+            self.prefixes.count_taken(before.prefix, &insn);
             let name = name(&insn);
             if let Some(event) = event(&name, &before, &warp) {
                 *self.events.entry(event).or_default() += 1;
@@ -159,7 +168,8 @@ impl Stats {
         let before = warp.clone();
         assert_eq!(run::step(&mut warp, kernel, vector, data), code);
         assert!(warp == before && now_vector == vector && now_data == data);
-        if let Some(insn) = exec::fetch(&warp, kernel).and_then(decode) {
+        self.prefixes.count_refused(warp.prefix, exec::fetch(&warp, kernel), code);
+        if let Some(insn) = next(&warp, kernel) {
             if matches!(code, 7..=11 | 14) {
                 *self.refused.entry(format!("{} {}", code, name(&insn))).or_default() += 1;
                 self.count_private(&insn, &warp, vector, data, code);
@@ -201,6 +211,7 @@ impl Stats {
                 let (kernel, mut data, mut vector) = (kernel.build(), data.build(), vector.build());
                 if answer.code != 1 && answer.code != 2 {
                     let warp = saved::from_words(state).expect("an accepted state");
+                    self.prefixes.count_handed_in(warp.prefix);
                     self.trace(warp, &kernel, &mut vector, &mut data, &answer);
                 }
                 "state"
@@ -294,6 +305,7 @@ fn statistics(cases: &[Case], file: usize) {
     eprintln!("refused {:?}", stats.refused);
     eprintln!("private {:?}", stats.private);
     eprintln!("private lanes, bytes at u mod 4 {:?}", stats.private_lanes);
+    stats.prefixes.print();
     for v in variants() {
         let times = stats.executed.get(&v.name).copied().unwrap_or(0);
         if times < 50 {

@@ -2,6 +2,7 @@
 
 use reference::case::{evaluate, Case, Job, Said};
 use reference::generate_marks::end_and_steps;
+use reference::isa::{decode, Insn};
 use reference::sheet::{steps_of, STEP_BYTES};
 use reference::{card, run};
 use std::collections::BTreeMap;
@@ -30,6 +31,9 @@ struct Stats {
     ends: Counts,
     first: Counts,
     steps: usize,
+    /// Steps that are prefixes, and runs with such a step.
+    prefixes: usize,
+    prefixed_runs: u32,
     longest_run: usize,
     longest_sheet: usize,
     deepest: u8,
@@ -64,6 +68,12 @@ fn refused_with_1(case: &Case, job: &Job) -> &'static str {
     }
 }
 
+/// Whether a step's word is a prefix.
+fn is_prefix(step: &[u8]) -> bool {
+    let word = u32::from_be_bytes([step[4], step[5], step[6], step[7]]);
+    matches!(decode(word), Some(Insn::RegExt(_) | Insn::RegExtI(_)))
+}
+
 impl Stats {
     fn count(&mut self, case: &Case) {
         let answer = evaluate(case);
@@ -89,6 +99,9 @@ impl Stats {
         count(if steps.is_empty() { &mut self.first } else { &mut self.ends }, end);
         self.steps += steps.len() / STEP_BYTES;
         self.longest_run = self.longest_run.max(steps.len() / STEP_BYTES);
+        let prefixes = steps.chunks_exact(STEP_BYTES).filter(|step| is_prefix(step)).count();
+        self.prefixes += prefixes;
+        self.prefixed_runs += u32::from(prefixes > 0);
         let splits = steps.chunks_exact(STEP_BYTES).map(|step| step[STEP_BYTES - 1]);
         self.deepest = splits.fold(self.deepest, u8::max);
         steps
@@ -137,6 +150,7 @@ impl Stats {
             each(&self.marks, &MARKS),
             each(&self.wrong, &FIELDS.map(|(name, _)| name)),
             each(&self.ends, &["0", "3", "4", "5", "6", "7", "8", "9", "10", "11", "14"]),
+            vec![("a prefix in a run".into(), self.prefixed_runs)],
         ]
         .concat()
     }
@@ -150,6 +164,7 @@ pub fn statistics(cases: &[Case], file: usize) {
         "steps {}, longest run {}, longest sheet {}, deepest {}",
         stats.steps, stats.longest_run, stats.longest_sheet, stats.deepest
     );
+    eprintln!("prefixes {}, in {} runs", stats.prefixes, stats.prefixed_runs);
     for (name, counts) in [
         ("kinds", &stats.kinds),
         ("codes", &stats.codes),

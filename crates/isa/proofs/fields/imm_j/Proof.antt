@@ -13,4 +13,5 @@ imm-j-spec =
     (tie.spec
     (λ c. search needs) (λ c. search needs) (λ c. search needs) (λ c. search needs) (λ c. search needs) (λ c. search needs) (λ c. search needs)
     (λ c. search needs) (λ c. search needs) (λ c. search needs) (λ c. search needs)
+    (λ c. search needs)
     (λ c. (refl, immJ-small (fieldsOf (c .args .w)) (small (c .args .w)) (omega arith))))
