@@ -14,12 +14,13 @@ use Rattle.word.specs.Word.{subOf}
 use Rattle.isa.specs.declared.Instr.{Instr}
 use Rattle.isa.specs.declared.Instr.the-variants as I
 use Rattle.isa.specs.declared.Prefix.{Prefix}
-use Rattle.isa.specs.Fields.{Fields, fieldsOf}
-use Rattle.isa.specs.Kinds.{rowOf, instrOf}
+use Rattle.isa.specs.Kinds.{instrOf}
 use Rattle.isa.specs.Decode.{decodeOf}
-use Rattle.isa.specs.Prefix.{regExtI, noPrefix, pending, onFields, prefixed}
-use Rattle.isa.specs.Wide.{above, widened, digitsIn, wideOf, Judged}
-use Rattle.isa.proofs.Digits.{no-digits}
+use Rattle.isa.specs.Prefix.{regExtI, noPrefix, pending, prefixed}
+use Rattle.isa.specs.Wide.{plainWide, widened, wideOf, Judged}
+use Rattle.isa.proofs.Decoded.{decoded}
+use Rattle.isa.proofs.Digits.{fits-low, scalars-taken}
+use Rattle.isa.proofs.Numbers.{read-plain, read-widened}
 use Rattle.warp.specs.declared.Warp.{Warp}
 use Rattle.warp.specs.Warp.{withPrefix, pends}
 use Rattle.warp.specs.WellFormed.{prefixOkOf, wellFormedOf}
@@ -122,50 +123,39 @@ module _ (k g h x s : List ℕ) where
 
 -- ---- the prefix
 
--- the digits stand above the word's fields
-pub fields-above : (w a : ℕ) → fieldsOf (w + a * 2 ^ 32) ≡ fieldsOf w
-fields-above w a = rw (f7 w a, f12 w a, f15 w a, f20 w a, f25 w a)
-  where
-    f7 : (w a : ℕ) → (w + a * 2 ^ 32) / 2 ^ 7 % 2 ^ 5 ≡ w / 2 ^ 7 % 2 ^ 5
-    f7 w a = omega arith
-
-    f12 : (w a : ℕ) → (w + a * 2 ^ 32) / 2 ^ 12 % 2 ^ 3 ≡ w / 2 ^ 12 % 2 ^ 3
-    f12 w a = omega arith
-
-    f15 : (w a : ℕ) → (w + a * 2 ^ 32) / 2 ^ 15 % 2 ^ 5 ≡ w / 2 ^ 15 % 2 ^ 5
-    f15 w a = omega arith
-
-    f20 : (w a : ℕ) → (w + a * 2 ^ 32) / 2 ^ 20 % 2 ^ 5 ≡ w / 2 ^ 20 % 2 ^ 5
-    f20 w a = omega arith
-
-    f25 : (w a : ℕ) → (w + a * 2 ^ 32) / 2 ^ 25 % 2 ^ 7 ≡ w / 2 ^ 25 % 2 ^ 7
-    f25 w a = omega arith
-
 pub prefix-bits : (p : Prefix) → prefixOkOf p ≡ true → p .bits < 2 ^ 12
 unfolding prefixOkOf
 prefix-bits p e = ltb-true _ _ (every-at (leb (p .kind) regExtI ∷ ltb (p .bits) (2 ^ 12) ∷ (pending p || eqb (p .bits) 0) ∷ []) e 1)
 
 -- none is pending, the word doesn't take it, or it takes it
-pub widens-none : (p : Prefix) (w : ℕ) → w < 2 ^ 32 → p .kind ≡ 0 → Widens p w 0 w
+pub widens-none : (p : Prefix) (w : ℕ) → w < 2 ^ 32 → p .kind ≡ 0 → Widens p w 0 (plainWide w)
 unfolding prefixed
 widens-none p w b z =
-    record { fields = λ e. refl; taken = λ e. rw (eq-eqb _ _ z) (sym (no-digits w b (decodeOf w))); number = λ n. absurd (n refl); refused = λ n. absurd (n refl) }
+    record {
+      taken = λ e k i. rw (eq-eqb _ _ z) (read-plain w k b (decodeOf w) i (fits-low (decodeOf w) (decoded w)));
+      number = λ n. absurd (n refl);
+      refused = λ n. absurd (n refl);
+    }
 
 pub widens-not : (p : Prefix) (w z : ℕ) → Judged false p w → Widens p w 6 z
-widens-not p w z j = record { fields = λ e. absurd (omega arith); taken = λ e. absurd (omega arith); number = λ n. refl; refused = λ n. j .refused refl }
+widens-not p w z j = record { taken = λ e. absurd (omega arith); number = λ n. refl; refused = λ n. j .refused refl }
 
-pub widens-so : (p : Prefix) (w : ℕ) → Judged true p w → Widens p w 0 (widened p w)
-widens-so p w j = record { fields = λ e. fields-above w (above p); taken = λ e. j .taken refl; number = λ n. absurd (n refl); refused = λ n. absurd (n refl) }
+pub widens-so : (p : Prefix) (w : ℕ) → w < 2 ^ 32 → p .bits < 2 ^ 12 → (p .kind ≡ 0 → ⊥) → Judged true p w → Widens p w 0 (widened p w)
+widens-so p w b q n j =
+    record {
+      taken = λ e k i. read-widened w k b (decodeOf w) i p q (scalars-taken p (decodeOf w) (rw (ne-eqb _ _ n)) (j .taken refl)) ∙ sym (j .taken refl);
+      number = λ n. absurd (n refl);
+      refused = λ n. absurd (n refl);
+    }
 
 -- where none is pending it is used up already
 pub none-goes : (g h x s : List ℕ) → length h ≡ movingCount → length s ≡ flatCount → prefixIn h ≡ noPrefix → Goes (withPrefix noPrefix) g h x s h x s
 unfolding warpOf
 none-goes g h x s z n e = record { long = z; room = n; sound = λ o. o; goes = ap (λ (p : Prefix). withPrefix p (warpOf g h x s)) e }
 
--- the instruction that is read with the digits is the word's, with the prefix on it
+-- the instruction that is read is the word's, with the prefix on it
 pub own-is : (p : Prefix) (k w c z : ℕ) → Widens p w c z → c ≡ 0 → instrOf k w ≡ decodeOf w → wideOf k z ≡ prefixed p (decodeOf w)
-own-is p k w c z q e i =
-    ap (λ (f : Fields). onFields (digitsIn z) (rowOf k f)) (q .fields e) ∙ ap (onFields (digitsIn z)) i ∙ sym (q .taken e)
+own-is p k w c z q e i = q .taken e k i
 
 pub pended : (i : Instr) (k n c : ℕ) (g h x s v d h' : List ℕ) → c ≡ 0 → Goes (pends k n) g h x s h' x s → first (refusalsOf i (state (warpOf g h x s) v d)) ≡ 0
     → effectOf i (state (warpOf g h x s) v d) ≡ goes (pends k n (warpOf g h x s)) → Handles (execOf i) c (lists g h x s v d) (lists g h' x s v d)

@@ -11,10 +11,10 @@ use Rattle.layout.specs.Lent.{Lent}
 use Rattle.definition.specs.Refuse.{runsOkOf}
 use Rattle.isa.specs.declared.Instr.the-variants.{Refused}
 use Rattle.isa.specs.declared.Prefix.{Prefix}
-use Rattle.isa.specs.Fields.{fieldsOf}
 use Rattle.isa.specs.Decode.{decodeOf}
-use Rattle.isa.specs.Prefix.{onFields, prefixed}
-use Rattle.isa.specs.Wide.{digitsIn}
+use Rattle.isa.specs.Kinds.{instrOf}
+use Rattle.isa.specs.Prefix.{prefixed}
+use Rattle.isa.specs.Wide.{wideOf}
 use Rattle.handlers.specs.Handles.{Lists}
 
 -- a well-formed warp's words, with a file and data of the right sizes
@@ -33,9 +33,8 @@ pub record Lies (pc base r : ℕ) : Type 0 where
   pub on : base ≤ pc → r ≡ (pc - base) / 4
   pub before : (n : ℕ) → base + 4 * n ≤ 2 ^ 32 → pc < base → n ≤ r
 
--- the prefix p put on the word w: c is 0, and z is the word with the digits that its instruction is read with, or 6
+-- the prefix p put on the word w: c is 0, and z is the number from which the word's instruction is read with the prefix on it, whatever its kind, or 6
 pub record Widens (p : Prefix) (w c z : ℕ) : Type 0 where
-  pub fields : c ≡ 0 → fieldsOf z ≡ fieldsOf w
-  pub taken : c ≡ 0 → prefixed p (decodeOf w) ≡ onFields (digitsIn z) (decodeOf w)
+  pub taken : c ≡ 0 → (k : ℕ) → instrOf k w ≡ decodeOf w → wideOf k z ≡ prefixed p (decodeOf w)
   pub number : (c ≡ 0 → ⊥) → c ≡ 6
   pub refused : (c ≡ 0 → ⊥) → prefixed p (decodeOf w) ≡ Refused

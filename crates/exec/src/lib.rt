@@ -184,7 +184,7 @@ pub fn fetch(h: &[u32; MOVING], g: &[u32; FIXED], k: &[u32]) -> Word
     }
 }
 
-// Why a word that was fetched isn't run, or 0 and the word with the digits of the pending prefix above it.
+// Why a word that was fetched isn't run, or 0 and the word with the numbers of its registers above it.
 pub struct WideWord {
     pub code: u32,
     pub word: u64,
@@ -199,7 +199,7 @@ fn widened(h: &[u32; MOVING], w: u32) -> WideWord
     if kind == 0 {
         return WideWord {
             code: answer::DONE,
-            word: w as u64,
+            word: fields::plain(w),
         };
     }
     let bits = h[BITS];

@@ -1,5 +1,5 @@
 // The instruction of a word, by its kind: for the test program and for whoever lists words. The step reads the fields itself. A number of 64
-// bits is a word with a prefix's digits above it.
+// bits is a word with the numbers of its registers above it.
 ghost use mathlib.Core.Path.{_≡_};
 ghost use mathlib.Core.List.{_++_};
 ghost use Prim.Native.Nat.{_%_};
@@ -10,7 +10,7 @@ ghost use Rattle.isa.specs.Number.{opAt};
 ghost use Rattle.isa.specs.Decode.{decodeOf};
 ghost use Rattle.isa.specs.Kinds.{laneOpWord, laneGroups, ofRegisters, ofImmediates, opLimit};
 ghost use Rattle.isa.specs.Prefix.{onFields};
-ghost use Rattle.isa.specs.Wide.{digitsIn, csrWide, wideOf};
+ghost use Rattle.isa.specs.Wide.{numbersIn, csrWide, wideOf};
 use isa::Instr;
 use isa::Space;
 use isa::VecArgs;
@@ -25,6 +25,7 @@ use isa::fields::imm_u;
 use isa::fields::lane_store_op;
 use isa::fields::load_op;
 use isa::fields::op_at;
+use isa::fields::plain;
 use isa::fields::private_load_offset;
 use isa::fields::private_store_offset;
 use isa::fields::rd;
@@ -42,19 +43,19 @@ use isa::kinds;
 use word::Op;
 
 fn of_registers(op: Op, w: u64) -> Instr
-    ensures { λ r. ⌜ r ≡ onFields (digitsIn w) (opAs op (fieldsOf w)) ⌝ }
+    ensures { λ r. ⌜ r ≡ onFields (numbersIn w) (opAs op (fieldsOf w)) ⌝ }
 {
     Instr::OpReg(op, xd(w), xs1(w), xs2(w))
 }
 
 fn of_immediate(op: Op, w: u64) -> Instr
-    ensures { λ r. ⌜ r ≡ onFields (digitsIn w) (immediateAs op (fieldsOf w)) ⌝ }
+    ensures { λ r. ⌜ r ≡ onFields (numbersIn w) (immediateAs op (fieldsOf w)) ⌝ }
 {
     Instr::OpImm(op, xd(w), xs1(w), imm_i(w))
 }
 
 fn shift(op: Op, w: u64) -> Instr
-    ensures { λ r. ⌜ r ≡ onFields (digitsIn w) (shiftAs op (fieldsOf w)) ⌝ }
+    ensures { λ r. ⌜ r ≡ onFields (numbersIn w) (shiftAs op (fieldsOf w)) ⌝ }
 {
     Instr::OpImm(op, xd(w), xs1(w), shift_amount(w))
 }
@@ -69,7 +70,7 @@ fn csr(w: u64) -> Instr
 }
 
 fn vector(kind: u32, w: u64) -> Instr
-    ensures { λ r. ⌜ r ≡ onFields (digitsIn w) (laneOpWord (opAt (kind % opLimit)) (fieldsOf w)) ⌝ }
+    ensures { λ r. ⌜ r ≡ onFields (numbersIn w) (laneOpWord (opAt (kind % opLimit)) (fieldsOf w)) ⌝ }
 {
     let args = VecArgs {
         vd: vd(w),
@@ -80,7 +81,7 @@ fn vector(kind: u32, w: u64) -> Instr
 }
 
 fn immediate_word(kind: u32, w: u64) -> Instr
-    ensures { λ r. ⌜ r ≡ onFields (digitsIn w) (wordAt (fieldsOf w) kind ofImmediates) ⌝ }
+    ensures { λ r. ⌜ r ≡ onFields (numbersIn w) (wordAt (fieldsOf w) kind ofImmediates) ⌝ }
 {
     match kind {
         kinds::ADDI => of_immediate(Op::Add, w),
@@ -97,7 +98,7 @@ fn immediate_word(kind: u32, w: u64) -> Instr
 }
 
 fn register_word(kind: u32, w: u64) -> Instr
-    ensures { λ r. ⌜ r ≡ onFields (digitsIn w) (wordAt (fieldsOf w) kind (ofRegisters ++ ofImmediates)) ⌝ }
+    ensures { λ r. ⌜ r ≡ onFields (numbersIn w) (wordAt (fieldsOf w) kind (ofRegisters ++ ofImmediates)) ⌝ }
 {
     match kind {
         kinds::ADD => of_registers(Op::Add, w),
@@ -123,7 +124,7 @@ fn register_word(kind: u32, w: u64) -> Instr
 }
 
 fn lane_word(kind: u32, w: u64) -> Instr
-    ensures { λ r. ⌜ r ≡ onFields (digitsIn w) (wordAt (fieldsOf w) kind (laneGroups ++ ofRegisters ++ ofImmediates)) ⌝ }
+    ensures { λ r. ⌜ r ≡ onFields (numbersIn w) (wordAt (fieldsOf w) kind (laneGroups ++ ofRegisters ++ ofImmediates)) ⌝ }
 {
     match kind {
         kinds::VBRANCH => Instr::VBranch(cond(w), vs1(w), vs2(w), imm_b(w)),
@@ -181,5 +182,5 @@ fn instruction(kind: u32, w: u64) -> Instr
 pub fn decode(w: u32) -> Instr
     ensures { λ r. ⌜ r ≡ decodeOf w ⌝ }
 {
-    instruction(decoder::kind(w), w as u64)
+    instruction(decoder::kind(w), plain(w))
 }

@@ -1,21 +1,22 @@
--- The digits above a word: none change nothing, and those of a prefix that the word takes are the prefix's.
+-- Digits on an instruction: those that change nothing, and the scalar registers that there are.
 use Prim.Native.Nat.{ℕ, _+_, _*_, _/_, _%_, _^_, _<_}
-use mathlib.Core.Path.{_≡_, refl, ap}
+use mathlib.Core.Path.{_≡_, refl, ap, subst}
 use mathlib.Core.List.{List, [], _∷_}
 use mathlib.Core.Bool.{Bool, true, false, cond, _&&_}
 use native.Mathlib.Omega.{arith}
 use lib.Dec.{eqb, ltb}
-use borrow.Author.Tests.{ne-eqb, ltb-true}
+use borrow.Author.Tests.{ltb-true}
 use Rattle.isa.specs.declared.XReg.{XReg}
 use Rattle.isa.specs.declared.VReg.{VReg}
 use Rattle.isa.specs.declared.Source.{Source}
 use Rattle.isa.specs.declared.Source.the-variants as From
+use Rattle.isa.specs.declared.Prefix.{Prefix}
 use Rattle.isa.specs.declared.Instr.{Instr}
 use Rattle.isa.specs.declared.Instr.the-variants as I
-use Rattle.isa.specs.Bounds.{scalarRegisters}
+use Rattle.isa.specs.Bounds.{scalarRegisters, fieldLimit}
 use Rattle.isa.specs.Fields.{x, v}
-use Rattle.isa.specs.Prefix.{OnFields, regExt, prefix, byDigits, extOf, extIOf, digitsOf, onSource, onFields, Takes, neither, regExtAlone, both, takesBy, takesOf, allScalars, allowed}
-use Rattle.isa.specs.Wide.{widened, digitsIn}
+use Rattle.isa.specs.Fits.{fieldOf, sourceLimit, Fits}
+use Rattle.isa.specs.Prefix.{OnFields, regExt, pending, extOf, digitsOf, onSource, onFields, Takes, neither, regExtAlone, both, takesBy, takesOf, allScalars, allowed, prefixed}
 
 -- ---- no digits
 
@@ -76,30 +77,7 @@ zero-digits n d a b =
     same (extOf n)
     (record { xd = λ r. x-same _ r d; x1 = λ r. x-same _ r a; x2 = λ r. x-same _ r b; vd = λ r. v-same _ r d; v1 = λ r. v-same _ r a; v2 = λ r. v-same _ r b; imm = λ i. refl })
 
-pub no-digits : (w : ℕ) → w < 2 ^ 32 → (i : Instr) → onFields (digitsIn w) i ≡ i
-no-digits w b =
-    same (digitsIn w)
-    (record {
-      xd = λ r. x-same (w / 2 ^ 32 % 2) r (omega arith);
-      x1 = λ r. x-same (w / 2 ^ 35 % 2) r (omega arith);
-      x2 = λ r. x-same (w / 2 ^ 38 % 2) r (omega arith);
-      vd = λ r. v-same (w / 2 ^ 32 % 2 ^ 3) r (omega arith);
-      v1 = λ r. v-same (w / 2 ^ 35 % 2 ^ 3) r (omega arith);
-      v2 = λ r. v-same (w / 2 ^ 38 % 2 ^ 3) r (omega arith);
-      imm = λ n. rw (ne-eqb (w / 2 ^ 50 % 2) 1 (λ e. omega arith));
-    })
-
--- ---- the digits of a prefix
-
--- f gives what g gives; of a scalar register, where there is such a register
-record Agree (f g : OnFields) : Type 0 where
-  xd : (r : XReg) → g .xd r .0 < scalarRegisters → f .xd r ≡ g .xd r
-  x1 : (r : XReg) → g .x1 r .0 < scalarRegisters → f .x1 r ≡ g .x1 r
-  x2 : (r : XReg) → g .x2 r .0 < scalarRegisters → f .x2 r ≡ g .x2 r
-  vd : (r : VReg) → f .vd r ≡ g .vd r
-  v1 : (r : VReg) → f .v1 r ≡ g .v1 r
-  v2 : (r : VReg) → f .v2 r ≡ g .v2 r
-  imm : (n : ℕ) → f .imm n ≡ g .imm n
+-- ---- the scalar registers that an instruction names
 
 -- there are such scalar registers
 abbrev pub Scalars : List XReg → Type 0
@@ -128,125 +106,50 @@ scalars-of k neither e = tt
 scalars-of k (regExtAlone rs) e = scalars rs (and-true (eqb k regExt) (allScalars rs) e .1)
 scalars-of k both e = tt
 
-module _ (f g : OnFields) (h : Agree f g) where
-  agree-source : (s : Source) → ScalarsOf (takesBy (onSource g s)) → onSource f s ≡ onSource g s
-  agree-source (From.V r) t = rw (h .v1 r)
-  agree-source (From.X r) t = rw (h .x1 r (t .0))
-  agree-source (From.I n) t = h .imm n
-  agree-source (From.Long n) t = refl
+-- a decoded instruction's are below 32: a field has five bits
+low : {n : ℕ} → n < fieldLimit → n < scalarRegisters
+low h = omega arith
 
-  agree : (i : Instr) → ScalarsOf (takesOf (onFields g i)) → onFields f i ≡ onFields g i
-  agree I.Refused t = refl
-  agree (I.Lui r n) t = rw (h .xd r (t .0))
-  agree (I.Auipc r n) t = rw (h .xd r (t .0))
-  agree (I.Jal r n) t = rw (h .xd r (t .0))
-  agree (I.Jalr r a n) t = rw (h .xd r (t .0), h .x1 a (t .1 .0))
-  agree (I.Branch o a b n) t = rw (h .x1 a (t .0), h .x2 b (t .1 .0))
-  agree (I.Load o r a n) t = rw (h .xd r (t .0), h .x1 a (t .1 .0))
-  agree (I.Store o a b n) t = rw (h .x1 a (t .0), h .x2 b (t .1 .0))
-  agree (I.OpImm o r a n) t = rw (h .xd r (t .0), h .x1 a (t .1 .0))
-  agree (I.OpReg o r a b) t = rw (h .xd r (t .0), h .x1 a (t .1 .0), h .x2 b (t .1 .1 .0))
-  agree (I.Fence r a n) t = refl
-  agree (I.Csr o r a n) t = rw (h .xd r (t .0), h .x1 a (t .1 .0))
-  agree (I.CsrImm o r i n) t = rw (h .xd r (t .0))
-  agree (I.Vector o a) t = rw (h .vd (a .vd), h .v2 (a .vs2), agree-source (a .src) t)
-  agree (I.VMove r s) t = rw (h .vd r, agree-source s t)
-  agree (I.VMoveXS r b) t = rw (h .xd r (t .0), h .v2 b)
-  agree (I.VMoveSX r a) t = rw (h .vd r, h .x1 a (t .0))
-  agree (I.Vid r) t = rw (h .vd r)
-  agree (I.VBranch o a b n) t = rw (h .v1 a, h .v2 b)
-  agree I.Join t = refl
-  agree (I.SetRpc r a n) t = rw (h .xd r (t .0), h .x1 a (t .1 .0))
-  agree I.EndPrg t = refl
-  agree (I.Barrier n) t = refl
-  agree (I.VLoad s o r a n) t = rw (h .vd r, h .v1 a)
-  agree (I.VStore s o a b n) t = rw (h .v1 a, h .v2 b)
-  agree (I.RegExt n) t = refl
-  agree (I.RegExtI n) t = refl
+source-low : (s : Source) → fieldOf s < sourceLimit s → ScalarsOf (takesBy s)
+source-low (From.V r) h = tt
+source-low (From.X r) h = (low h, tt)
+source-low (From.I n) h = tt
+source-low (From.Long n) h = tt
 
--- a scalar register's digit is 0 or 1, its own lowest bit
-x-agree : (a d r : ℕ) → a % 2 ^ 3 ≡ d → d * 2 ^ 5 + r < scalarRegisters → x (a % 2 * 2 ^ 5 + r) ≡ x (d * 2 ^ 5 + r)
-x-agree a d r e b = let q : a % 2 ≡ d = omega arith in ap (λ (n : ℕ). x (n * 2 ^ 5 + r)) q
+pub fits-low : (i : Instr) → Fits i → ScalarsOf (takesOf i)
+fits-low I.Refused h = tt
+fits-low (I.Lui r n) h = (low (h .0), tt)
+fits-low (I.Auipc r n) h = (low (h .0), tt)
+fits-low (I.Jal r n) h = (low (h .0), tt)
+fits-low (I.Jalr r a n) h = (low (h .0), (low (h .1 .0), tt))
+fits-low (I.Branch o a b n) h = (low (h .0), (low (h .1 .0), tt))
+fits-low (I.Load o r a n) h = (low (h .0), (low (h .1 .0), tt))
+fits-low (I.Store o a b n) h = (low (h .0), (low (h .1 .0), tt))
+fits-low (I.OpImm o r a n) h = (low (h .0), (low (h .1 .0), tt))
+fits-low (I.OpReg o r a b) h = (low (h .0), (low (h .1 .0), (low (h .1 .1 .0), tt)))
+fits-low (I.Fence r a n) h = tt
+fits-low (I.Csr o r a n) h = (low (h .0), (low (h .1 .0), tt))
+fits-low (I.CsrImm o r i n) h = (low (h .0), tt)
+fits-low (I.Vector o a) h = source-low (a .src) (h .1 .1 .0)
+fits-low (I.VMove r s) h = source-low s (h .1 .0)
+fits-low (I.VMoveXS r b) h = (low (h .0), tt)
+fits-low (I.VMoveSX r a) h = (low (h .1 .0), tt)
+fits-low (I.Vid r) h = tt
+fits-low (I.VBranch o a b n) h = tt
+fits-low I.Join h = tt
+fits-low (I.SetRpc r a n) h = (low (h .0), (low (h .1 .0), tt))
+fits-low I.EndPrg h = tt
+fits-low (I.Barrier n) h = tt
+fits-low (I.VLoad s o r a n) h = tt
+fits-low (I.VStore s o a b n) h = tt
+fits-low (I.RegExt n) h = tt
+fits-low (I.RegExtI n) h = tt
 
-v-agree : (a d r : ℕ) → a % 2 ^ 3 ≡ d → v (a % 2 ^ 3 * 2 ^ 5 + r) ≡ v (d * 2 ^ 5 + r)
-v-agree a d r e = ap (λ (n : ℕ). v (n * 2 ^ 5 + r)) e
-
-module _ (w n : ℕ) (b : w < 2 ^ 32) where
-  upper32 : (w + n * 2 ^ 32) / 2 ^ 32 ≡ n
-  upper32 = omega arith
-
-  upper35 : (w + n * 2 ^ 32) / 2 ^ 35 ≡ n / 2 ^ 3
-  upper35 = omega arith
-
-  upper38 : (w + n * 2 ^ 32) / 2 ^ 38 ≡ n / 2 ^ 6
-  upper38 = omega arith
-
-  upper44 : (w + n * 2 ^ 32) / 2 ^ 44 ≡ n / 2 ^ 12
-  upper44 = omega arith
-
-  upper50 : (w + n * 2 ^ 32) / 2 ^ 50 ≡ n / 2 ^ 18
-  upper50 = omega arith
-
-  -- the number n above the word has these digits
-  by-digits :
-      (d a c : ℕ) (f : ℕ → Source) → n % 2 ^ 3 ≡ d → n / 2 ^ 3 % 2 ^ 3 ≡ a → n / 2 ^ 6 % 2 ^ 3 ≡ c
-      → ((i : ℕ) → digitsIn (w + n * 2 ^ 32) .imm i ≡ f i) → Agree (digitsIn (w + n * 2 ^ 32)) (byDigits d a c f)
-  by-digits d a c f ed ea ec ei =
-      record {
-        xd = λ r s. rw upper32 (x-agree n d (r .0) ed s);
-        x1 = λ r s. rw upper35 (x-agree (n / 2 ^ 3) a (r .0) ea s);
-        x2 = λ r s. rw upper38 (x-agree (n / 2 ^ 6) c (r .0) ec s);
-        vd = λ r. rw upper32 (v-agree n d (r .0) ed);
-        v1 = λ r. rw upper35 (v-agree (n / 2 ^ 3) a (r .0) ea);
-        v2 = λ r. rw upper38 (v-agree (n / 2 ^ 6) c (r .0) ec);
-        imm = ei;
-      }
-
--- REGEXTI's number above the word, of the immediate's upper bits, x2 and xd
-abbrev joined : ℕ → ℕ → ℕ → ℕ
-joined s c d = 2 ^ 18 + s * 2 ^ 12 + c * 2 ^ 6 + d
-
-module _ (s c d : ℕ) (p : s < 2 ^ 6) (q : c < 2 ^ 3) (r : d < 2 ^ 3) where
-  abbrev sum : ℕ
-  sum = joined s c d
-
-  first : sum % 2 ^ 3 ≡ d
-  first = omega arith
-
-  second : sum / 2 ^ 3 % 2 ^ 3 ≡ 0
-  second = let e : sum / 2 ^ 3 ≡ 2 ^ 15 + s * 2 ^ 9 + c * 2 ^ 3 = omega arith in rw e (omega arith)
-
-  third : sum / 2 ^ 6 % 2 ^ 3 ≡ c
-  third = let e : sum / 2 ^ 6 ≡ 2 ^ 12 + s * 2 ^ 6 + c = omega arith in rw e (omega arith)
-
-  long-bits : sum / 2 ^ 12 % 2 ^ 6 ≡ s
-  long-bits = let e : sum / 2 ^ 12 ≡ 2 ^ 6 + s = omega arith in rw e (omega arith)
-
-  long-bit : sum / 2 ^ 18 % 2 ≡ 1
-  long-bit = let e : sum / 2 ^ 18 ≡ 1 = omega arith in rw e
-
-by-kind :
-    (t : Bool) (n w : ℕ) → n < 2 ^ 12 → w < 2 ^ 32
-    → Agree (digitsIn (w + cond t n (joined (n / 2 ^ 6 % 2 ^ 6) (n / 2 ^ 3 % 2 ^ 3) (n % 2 ^ 3)) * 2 ^ 32)) (cond t (extOf n) (extIOf n))
-by-kind true n w q b =
-    let z : n / 2 ^ 18 % 2 ≡ 0 = omega arith in
-    by-digits w n b (n % 2 ^ 3) (n / 2 ^ 3 % 2 ^ 3) (n / 2 ^ 6 % 2 ^ 3) From.I refl refl refl (λ i. rw (upper50 w n b, z))
-by-kind false n w q b =
-    let s : ℕ = n / 2 ^ 6 % 2 ^ 6 in
-    let c : ℕ = n / 2 ^ 3 % 2 ^ 3 in
-    let d : ℕ = n % 2 ^ 3 in
-    let p₁ : s < 2 ^ 6 = omega arith in
-    let p₂ : c < 2 ^ 3 = omega arith in
-    let p₃ : d < 2 ^ 3 = omega arith in
-    let whole : s ≡ n / 2 ^ 6 = omega arith in
-    by-digits w (joined s c d) b d 0 c (λ i. From.Long (n / 2 ^ 6 * 2 ^ 5 + i)) (first s c d p₁ p₂ p₃) (second s c d p₁ p₂ p₃)
-    (third s c d p₁ p₂ p₃)
-    (λ i. rw (upper50 w _ b, long-bit s c d p₁ p₂ p₃, upper44 w _ b, long-bits s c d p₁ p₂ p₃, whole))
-
--- where the instruction takes the prefix, the digits above its word are the prefix's
-pub digits-above :
-    (k n w : ℕ) → n < 2 ^ 12 → w < 2 ^ 32 → (i : Instr) → allowed k (takesOf (onFields (digitsOf (prefix k n)) i)) ≡ true
-    → onFields (digitsIn (widened (prefix k n) w)) i ≡ onFields (digitsOf (prefix k n)) i
-digits-above k n w q b i t =
-    agree (digitsIn (widened (prefix k n) w)) (digitsOf (prefix k n)) (by-kind (eqb k regExt) n w q b) i
-    (scalars-of k (takesOf (onFields (digitsOf (prefix k n)) i)) t)
+-- where the prefix changes nothing but registers, there are those that it names
+pub scalars-taken : (p : Prefix) (i : Instr) → pending p ≡ true → prefixed p i ≡ onFields (digitsOf p) i → ScalarsOf (takesOf (onFields (digitsOf p) i))
+unfolding prefixed
+scalars-taken p i t e = go (allowed (p .kind) (takesOf (onFields (digitsOf p) i))) refl (rw t at e)
+  where
+    go : (b : Bool) → allowed (p .kind) (takesOf (onFields (digitsOf p) i)) ≡ b → cond b (onFields (digitsOf p) i) I.Refused ≡ onFields (digitsOf p) i → ScalarsOf (takesOf (onFields (digitsOf p) i))
+    go true a q = scalars-of (p .kind) (takesOf (onFields (digitsOf p) i)) a
+    go false a q = subst (λ (k : Instr). ScalarsOf (takesOf k)) q tt

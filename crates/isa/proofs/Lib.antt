@@ -5,3 +5,4 @@ pub mod Immediates
 pub mod Forms
 pub mod Words
 pub mod Digits
+pub mod Numbers

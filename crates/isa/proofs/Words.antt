@@ -17,7 +17,7 @@ use Rattle.isa.specs.Number.{opAt}
 use Rattle.isa.specs.Kinds.{condOf, loadOpOf, storeOpOf, laneStoreOpOf, csrOpOf, anyCsrWord, sourceIn, laneOpWord, vectorKinds, opLimit, rowOf}
 use Rattle.isa.specs.Scalar.{csrAs, csrImmAs}
 use Rattle.isa.specs.Prefix.{onSource, onFields}
-use Rattle.isa.specs.Wide.{digitsIn, xdIn, xs1In, xs2In, vdIn, vs1In, vs2In, csrBy, csrWide, wideOf}
+use Rattle.isa.specs.Wide.{numbersIn, xdIn, xs1In, xs2In, vdIn, vs1In, vs2In, csrBy, csrWide, wideOf}
 
 module _ (k w : ℕ) where
   pub lui-is : {r : XReg} {n : ℕ} → k ≡ 1 → r ≡ xdIn w → n ≡ immU (fieldsOf w) → wideOf k w ≡ I.Lui r n
@@ -71,7 +71,7 @@ module _ (k w : ℕ) where
   unfolding rowOf anyCsrWord
   csr-is e = rw e (either (ltb (fieldsOf w .funct3) 0b100))
     where
-      either : (b : Bool) → onFields (digitsIn w) (cond b (csrAs (csrOpOf (fieldsOf w)) (fieldsOf w)) (csrImmAs (csrOpOf (fieldsOf w)) (fieldsOf w))) ≡ csrBy b w
+      either : (b : Bool) → onFields (numbersIn w) (cond b (csrAs (csrOpOf (fieldsOf w)) (fieldsOf w)) (csrImmAs (csrOpOf (fieldsOf w)) (fieldsOf w))) ≡ csrBy b w
       either true = refl
       either false = refl
 
@@ -153,11 +153,11 @@ module _ (k w : ℕ) where
   regexti-is e en = rw (e, en)
 
   pub vmove-is :
-      {r : VReg} {s : Source} → k ≡ 49 → r ≡ vdIn w → s ≡ onSource (digitsIn w) (sourceIn (fieldsOf w))
+      {r : VReg} {s : Source} → k ≡ 49 → r ≡ vdIn w → s ≡ onSource (numbersIn w) (sourceIn (fieldsOf w))
       → wideOf k w ≡ I.VMove r s
   unfolding rowOf
   vmove-is e er es = rw (e, er, es)
 
-  pub vector-is : vectorKinds ≤ k → wideOf k w ≡ onFields (digitsIn w) (laneOpWord (opAt (k % opLimit)) (fieldsOf w))
+  pub vector-is : vectorKinds ≤ k → wideOf k w ≡ onFields (numbersIn w) (laneOpWord (opAt (k % opLimit)) (fieldsOf w))
   unfolding rowOf
   vector-is l = rw (le-leb vectorKinds k l)

@@ -1,5 +1,5 @@
-// A word's fields, read from the word: what each is, and what it stays under. Above the word stand the digits of the prefix before it, 0 where
-// there is none (specs/Wide.antt).
+// A word's fields, read from the word: what each is, and what it stays under. Above the word stand the numbers of its registers, with the
+// digits of the prefix before it (specs/Wide.antt).
 ghost use mathlib.Core.Path.{_≡_};
 ghost use Prim.Native.Nat.{_<_, _^_};
 ghost use Rattle.isa.specs.Bounds.{scalarRegisters, vectorRegisters, fieldLimit};
@@ -8,7 +8,7 @@ ghost use Rattle.isa.specs.Fields.{privateLoadOffset, privateStoreOffset
 ghost use Rattle.isa.specs.Number.{opAt};
 ghost use Rattle.isa.specs.Kinds.{condOf, loadOpOf, storeOpOf, laneStoreOpOf, csrOpOf, sourceIn};
 ghost use Rattle.isa.specs.Prefix.{onSource};
-ghost use Rattle.isa.specs.Wide.{isLong, longIn, digitsIn, xdIn, xs1In, xs2In, vdIn, vs1In, vs2In};
+ghost use Rattle.isa.specs.Wide.{wideWord, plainWide, isLong, longIn, numbersIn, xdIn, xs1In, xs2In, vdIn, vs1In, vs2In};
 use crate::CsrOp;
 use crate::LoadOp;
 use crate::Source;
@@ -17,6 +17,27 @@ use crate::VReg;
 use crate::XReg;
 use word::Cond;
 use word::Op;
+
+// The word with the digits d, a and b on its fields of rd, rs1 and rs2, and `top` above them all.
+pub fn wide(word: u32, d: u64, a: u64, b: u64, top: u64) -> u64
+    requires { ⌜ (d < 2 ^ 3) × (a < 2 ^ 3) × (b < 2 ^ 3) × (top < 2 ^ 7) ⌝ }
+    ensures { λ r. ⌜ r ≡ wideWord word d a b top ⌝ }
+{
+    let w = word as u64;
+    let numbers = d * 32
+        + w / 128 % 32
+        + (a * 32 + w / 32768 % 32) * 256
+        + (b * 32 + w / 1048576 % 32) * 65536
+        + top * 16777216;
+    w + numbers * 4294967296
+}
+
+// No prefix stands before it.
+pub fn plain(word: u32) -> u64
+    ensures { λ r. ⌜ r ≡ plainWide word ⌝ }
+{
+    wide(word, 0, 0, 0, 0)
+}
 
 pub fn funct3(w: u64) -> u32
     ensures { λ r. ⌜ (r ≡ fieldsOf w .funct3) × (r < 2 ^ 3) ⌝ }
@@ -50,13 +71,13 @@ pub fn shift_amount(w: u64) -> u16
 pub fn long(w: u64) -> bool
     ensures { λ r. ⌜ r ≡ isLong w ⌝ }
 {
-    w / 1125899906842624 % 2 == 1
+    w / 4611686018427387904 % 2 == 1
 }
 
 pub fn long_immediate(w: u64) -> u16
     ensures { λ r. ⌜ (r ≡ longIn w (fieldsOf w .rs1)) × (r < 2 ^ 11) ⌝ }
 {
-    (w / 17592186044416 % 64 * 32 + w / 32768 % 32) as u16
+    (w / 72057594037927936 % 64 * 32 + w / 32768 % 32) as u16
 }
 
 // ---- registers
@@ -64,37 +85,37 @@ pub fn long_immediate(w: u64) -> u16
 pub fn xd(w: u64) -> XReg
     ensures { λ r. ⌜ (r ≡ xdIn w) × (r .0 < scalarRegisters) ⌝ }
 {
-    XReg((w / 4294967296 % 2 * 32 + w / 128 % 32) as u8)
+    XReg((w / 4294967296 % 64) as u8)
 }
 
 pub fn xs1(w: u64) -> XReg
     ensures { λ r. ⌜ (r ≡ xs1In w) × (r .0 < scalarRegisters) ⌝ }
 {
-    XReg((w / 34359738368 % 2 * 32 + w / 32768 % 32) as u8)
+    XReg((w / 1099511627776 % 64) as u8)
 }
 
 pub fn xs2(w: u64) -> XReg
     ensures { λ r. ⌜ (r ≡ xs2In w) × (r .0 < scalarRegisters) ⌝ }
 {
-    XReg((w / 274877906944 % 2 * 32 + w / 1048576 % 32) as u8)
+    XReg((w / 281474976710656 % 64) as u8)
 }
 
 pub fn vd(w: u64) -> VReg
     ensures { λ r. ⌜ (r ≡ vdIn w) × (r .0 < vectorRegisters) ⌝ }
 {
-    VReg((w / 4294967296 % 8 * 32 + w / 128 % 32) as u8)
+    VReg((w / 4294967296 % 256) as u8)
 }
 
 pub fn vs1(w: u64) -> VReg
     ensures { λ r. ⌜ (r ≡ vs1In w) × (r .0 < vectorRegisters) ⌝ }
 {
-    VReg((w / 34359738368 % 8 * 32 + w / 32768 % 32) as u8)
+    VReg((w / 1099511627776 % 256) as u8)
 }
 
 pub fn vs2(w: u64) -> VReg
     ensures { λ r. ⌜ (r ≡ vs2In w) × (r .0 < vectorRegisters) ⌝ }
 {
-    VReg((w / 274877906944 % 8 * 32 + w / 1048576 % 32) as u8)
+    VReg((w / 281474976710656 % 256) as u8)
 }
 
 // ---- immediates, with the definition's own divisions
@@ -214,7 +235,7 @@ pub fn csr_op(w: u64) -> CsrOp
 }
 
 fn immediate(w: u64) -> Source
-    ensures { λ r. ⌜ r ≡ digitsIn w .imm (fieldsOf w .rs1) ⌝ }
+    ensures { λ r. ⌜ r ≡ numbersIn w .imm (fieldsOf w .rs1) ⌝ }
 {
     if long(w) {
         return Source::Long(long_immediate(w));
@@ -224,7 +245,7 @@ fn immediate(w: u64) -> Source
 
 // A vector word's last operand.
 pub fn source(w: u64) -> Source
-    ensures { λ r. ⌜ r ≡ onSource (digitsIn w) (sourceIn (fieldsOf w)) ⌝ }
+    ensures { λ r. ⌜ r ≡ onSource (numbersIn w) (sourceIn (fieldsOf w)) ⌝ }
 {
     let funct3 = w / 4096 % 8;
     match funct3 {

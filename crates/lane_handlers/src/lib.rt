@@ -29,7 +29,7 @@ ghost use Rattle.answer.specs.Rows.{_⇒_, first};
 ghost use Rattle.word.specs.Word.{extendOf};
 ghost use Rattle.isa.specs.Fields.{fieldsOf, immB};
 ghost use Rattle.isa.specs.Prefix.{onSource, onFields};
-ghost use Rattle.isa.specs.Wide.{isLong, longIn, digitsIn, xdIn, xs1In, vdIn, vs1In, vs2In};
+ghost use Rattle.isa.specs.Wide.{isLong, longIn, numbersIn, xdIn, xs1In, vdIn, vs1In, vs2In};
 ghost use Rattle.isa.specs.Number.{opAt};
 ghost use Rattle.isa.specs.Kinds.{condOf, laneOpWord, opLimit};
 ghost use Rattle.isa.specs.Kinds.{sourceIn};
@@ -60,7 +60,7 @@ fn vi_immediate(w: u64) -> u32
 
 // A vector word's last operand, an immediate sign-extended whatever the operation: a shift looks at the low five bits only.
 fn operand(x: &[u32; SCALARS], w: u64) -> Operand
-    ensures { λ b. ⌜ OperandOk b × ((g h s v d : List ℕ) → b ≡ sourceOf extendOf (onSource (digitsIn w) (sourceIn (fieldsOf w))) (state (warpOf g h (now (x .entry)) s) v d)) ⌝ }
+    ensures { λ b. ⌜ OperandOk b × ((g h s v d : List ℕ) → b ≡ sourceOf extendOf (onSource (numbersIn w) (sourceIn (fieldsOf w))) (state (warpOf g h (now (x .entry)) s) v d)) ⌝ }
 {
     let funct3 = fields::funct3(w);
     match funct3 {
@@ -93,7 +93,7 @@ pub fn vector(
     w: u64,
 ) -> u32
     requires { ⌜ Lanes (now g) (now h) (now v) ⌝ }
-    ensures { λ c. ⌜ ((s d : List ℕ) → length s ≡ flatCount → Handles (execOf (onFields (digitsIn w) (laneOpWord (opAt (kind % opLimit)) (fieldsOf w)))) c (lists (now (g .entry)) (now (h .entry)) (now (x .entry)) s (now (v .entry)) d) (lists (now (g .entry)) (now (h .exit)) (now (x .entry)) s (now (v .exit)) d)) ⌝ }
+    ensures { λ c. ⌜ ((s d : List ℕ) → length s ≡ flatCount → Handles (execOf (onFields (numbersIn w) (laneOpWord (opAt (kind % opLimit)) (fieldsOf w)))) c (lists (now (g .entry)) (now (h .entry)) (now (x .entry)) s (now (v .entry)) d) (lists (now (g .entry)) (now (h .exit)) (now (x .entry)) s (now (v .exit)) d)) ⌝ }
 {
     let b = operand(x, w);
     let op = fields::op_at(kind % kinds::OPS);
@@ -118,7 +118,7 @@ pub fn vmove(
     w: u64,
 ) -> u32
     requires { ⌜ Lanes (now g) (now h) (now v) ⌝ }
-    ensures { λ c. ⌜ ((s d : List ℕ) → length s ≡ flatCount → Handles (execOf (Instr.VMove (vdIn w) (onSource (digitsIn w) (sourceIn (fieldsOf w))))) c (lists (now (g .entry)) (now (h .entry)) (now (x .entry)) s (now (v .entry)) d) (lists (now (g .entry)) (now (h .exit)) (now (x .entry)) s (now (v .exit)) d)) ⌝ }
+    ensures { λ c. ⌜ ((s d : List ℕ) → length s ≡ flatCount → Handles (execOf (Instr.VMove (vdIn w) (onSource (numbersIn w) (sourceIn (fieldsOf w))))) c (lists (now (g .entry)) (now (h .entry)) (now (x .entry)) s (now (v .entry)) d) (lists (now (g .entry)) (now (h .exit)) (now (x .entry)) s (now (v .exit)) d)) ⌝ }
 {
     let b = operand(x, w);
     lanes::move_lanes(v, h[MASK], threads(g), fields::vd(w), b);

@@ -10,6 +10,7 @@ ghost use mathlib.Core.List.{_++_};
 ghost use Prim.Native.Nat.{_+_, _*_, _≤_, _<_};
 ghost use lib.ListN.{length, drop};
 ghost use lib.Seq.{paste};
+ghost use Rattle.isa.specs.Bounds.{scalarRegisters};
 ghost use Rattle.warp.specs.Warp.{splitCount};
 ghost use Rattle.word.specs.Word.{flagOf};
 ghost use Rattle.layout.specs.Words.{stateWords, fixedIn, splitAt, splitsIn, warpOf, splitsWords, movingWords, fixedWords, scalarPart, splitPart, movingPart, fixedPart};
@@ -252,6 +253,15 @@ fn copy(from: &[u32], a: usize, to: &mut [u32], b: usize, n: usize)
     }
 }
 
+// How many of a state's words are scalar registers: all but those of the other parts. Asked of the state, so that the compiler copies them by
+// one call, where a constant of 64 makes it write out 64 copies (docs/SPEED.md).
+fn scalars(state: &[u32]) -> usize
+    requires { ⌜ length (now state) ≡ stateWords ⌝ }
+    ensures { λ r. ⌜ r ≡ scalarRegisters ⌝ }
+{
+    state.len() - (FLAT + MOVING + FIXED)
+}
+
 // The words of a state, part by part.
 pub fn get(
     state: &[u32],
@@ -263,7 +273,8 @@ pub fn get(
     requires { ⌜ length (now state) ≡ stateWords ⌝ }
     ensures { λ _. ⌜ (now (h .exit) ≡ movingPart (now (state .entry))) × (now (g .exit) ≡ fixedPart (now (state .entry))) × (now (x .exit) ≡ scalarPart (now (state .entry))) × (now (s .exit) ≡ splitPart (now (state .entry))) ⌝ }
 {
-    copy(state, 0, x, 0, SCALARS);
+    let n = scalars(state);
+    copy(state, 0, x, 0, n);
     copy(state, SCALARS, s, 0, FLAT);
     copy(state, MOVING_START, h, 0, MOVING);
     copy(state, FIXED_START, g, 0, FIXED);
@@ -280,7 +291,8 @@ pub fn put(
     requires { ⌜ length (now state) ≡ stateWords ⌝ }
     ensures { λ _. ⌜ now (state .exit) ≡ now (x .entry) ++ now (s .entry) ++ now (h .entry) ++ now (g .entry) ⌝ }
 {
-    copy(x, 0, state, 0, SCALARS);
+    let n = scalars(state);
+    copy(x, 0, state, 0, n);
     copy(s, 0, state, SCALARS, FLAT);
     copy(h, 0, state, MOVING_START, MOVING);
     copy(g, 0, state, FIXED_START, FIXED);

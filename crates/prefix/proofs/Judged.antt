@@ -9,7 +9,6 @@ use Rattle.isa.specs.Bounds.{scalarRegisters, fieldLimit}
 use Rattle.isa.specs.Decode.{decodeOf}
 use Rattle.isa.specs.Prefix.{regExt, prefix, prefixed}
 use Rattle.isa.specs.Wide.{Judged}
-use Rattle.isa.proofs.Digits.{digits-above}
 use Rattle.prefix.specs.Tells.{Tells, none, is, Known}
 
 -- the register is a scalar one where its digit is 0 or 1
@@ -35,15 +34,11 @@ known k n ed ea eb =
       x2 = λ m l. where-ext (eqb k regExt) _ _ (λ e. rw e (digit (n / 2 ^ 6 % 2 ^ 3) m l)) ∙ sym eb;
     }
 
-pub judged :
-    (k n w : ℕ) (t : Bool) → 0 < k → n < 2 ^ 12 → w < 2 ^ 32 → Tells (prefix k n) t (decodeOf w) → Judged t (prefix k n) w
+pub judged : (k n w : ℕ) (t : Bool) → 0 < k → Tells (prefix k n) t (decodeOf w) → Judged t (prefix k n) w
 unfolding prefixed
-judged k n w t z q b (none r) =
+judged k n w t z (none r) =
     let there : eqb k 0 ≡ false = ne-eqb k 0 (λ e. omega arith) in
     record { taken = λ e. rw (there, r); refused = λ e. rw (there, r) }
-judged k n w t z q b (is h) =
+judged k n w t z (is h) =
     let there : eqb k 0 ≡ false = ne-eqb k 0 (λ e. omega arith) in
-    record {
-      taken = λ e. rw (there, h ∙ e) (sym (digits-above k n w q b (decodeOf w) (h ∙ e)));
-      refused = λ e. rw (there, h ∙ e);
-    }
+    record { taken = λ e. rw (there, h ∙ e); refused = λ e. rw (there, h ∙ e) }

@@ -1,7 +1,8 @@
-// A word with the digits of the pending prefix above it, and whether the word takes the prefix.
+// A word with the digits of the pending prefix on its registers, and whether the word takes the prefix.
+use isa::fields::wide;
 ghost use mathlib.Core.Path.{_≡_};
 ghost use mathlib.Core.Bool.{Bool, _&&_};
-ghost use Prim.Native.Nat.{_^_, _<_};
+ghost use Prim.Native.Nat.{_<_};
 ghost use lib.Dec.{ltb};
 ghost use Rattle.isa.specs.declared.Prefix.{Prefix};
 ghost use Rattle.isa.specs.Fields.{fieldsOf};
@@ -17,15 +18,15 @@ pub const REGEXT: u32 = 1;
 
 pub const REGEXTI: u32 = 2;
 
-// The word in bits 31 to 0, the digits from bit 32 on.
+// The word with the numbers of its registers above it, the prefix's digits in them.
 pub fn widen(kind: u32, bits: u32, w: u32) -> u64
     ensures { λ r. ⌜ r ≡ widened (prefix kind bits) w ⌝ }
 {
     let n = bits as u64;
     if kind == REGEXT {
-        return w as u64 + n * 4294967296;
+        return wide(w, n % 8, n / 8 % 8, n / 64 % 8, 0);
     }
-    w as u64 + (262144 + n / 64 % 64 * 4096 + n / 8 % 8 * 64 + n % 8) * 4294967296
+    wide(w, n % 8, 0, n / 8 % 8, 64 + n / 64 % 64)
 }
 
 // A scalar register's digit is 0 or 1.
@@ -103,7 +104,7 @@ fn judge(ext: bool, xd: bool, x1: bool, x2: bool, w: u32) -> bool
 }
 
 pub fn takes(kind: u32, bits: u32, word: u32) -> bool
-    requires { ⌜ (0 < kind) × (bits < 2 ^ 12) ⌝ }
+    requires { ⌜ 0 < kind ⌝ }
     ensures { λ r. ⌜ Judged r (prefix kind bits) word ⌝ }
 {
     let ext = kind == REGEXT;

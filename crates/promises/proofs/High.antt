@@ -15,18 +15,17 @@ use Rattle.isa.specs.declared.Instr.the-variants as I
 use Rattle.isa.specs.declared.Source.{Source}
 use Rattle.isa.specs.declared.Source.the-variants as From
 use Rattle.isa.specs.declared.XReg.{XReg}
-use Rattle.isa.specs.Bounds.{scalarRegisters, fieldLimit}
+use Rattle.isa.specs.Bounds.{scalarRegisters}
 use Rattle.isa.specs.Decode.{decodeOf}
-use Rattle.isa.specs.Fits.{fieldOf, sourceLimit, Fits}
 use Rattle.isa.specs.Prefix.{pending, digitsOf, onFields, takesBy, takesOf, allowed, ifAllowed, prefixed}
 use Rattle.isa.proofs.Decoded.{decoded}
-use Rattle.isa.proofs.Digits.{ScalarsOf, scalars-of}
+use Rattle.isa.proofs.Digits.{ScalarsOf, scalars-of, fits-low}
 use Rattle.warp.specs.declared.Warp.{Warp}
 use Rattle.warp.specs.Warp.{setX, readX, withX, withPc, withRpc, withPrint, writeX, next, branched}
 use Rattle.warp.specs.WellFormed.{wellFormedOf}
-use Rattle.warp.specs.Splits.{openOf, parted, lastSplit, turnOf, closeOf, joinOf, setRpcOf}
+use Rattle.warp.specs.Splits.{openOf, parted, lastSplit, joinOf, setRpcOf}
 use Rattle.warp.specs.Csr.{isPrint, writesOf, csrNew, csrAt, csrDone}
-use Rattle.warp.proofs.SplitLaws.{by-cond}
+use Rattle.warp.proofs.SplitLaws.{by-cond, join-through}
 use Rattle.definition.specs.State.{State, outcome, xOf, pcBy, elseOf, placeOf, instrAt, usedUp}
 use Rattle.definition.specs.Refuse.{refusalsOf, testsOf}
 use Rattle.definition.specs.Exec.{effectOf, immediateOf, sourceOf}
@@ -37,45 +36,6 @@ use Rattle.promises.specs.High.{withMore, HighUntouched}
 
 abbrev Low : Instr → Type 0
 Low i = ScalarsOf (takesOf i)
-
--- with none: a field has five bits
-low : {n : ℕ} → n < fieldLimit → n < scalarRegisters
-low h = omega arith
-
-source-low : (s : Source) → fieldOf s < sourceLimit s → ScalarsOf (takesBy s)
-source-low (From.V r) h = tt
-source-low (From.X r) h = (low h, tt)
-source-low (From.I n) h = tt
-source-low (From.Long n) h = tt
-
-fits-low : (i : Instr) → Fits i → Low i
-fits-low I.Refused h = tt
-fits-low (I.Lui r n) h = (low (h .0), tt)
-fits-low (I.Auipc r n) h = (low (h .0), tt)
-fits-low (I.Jal r n) h = (low (h .0), tt)
-fits-low (I.Jalr r a n) h = (low (h .0), (low (h .1 .0), tt))
-fits-low (I.Branch o a b n) h = (low (h .0), (low (h .1 .0), tt))
-fits-low (I.Load o r a n) h = (low (h .0), (low (h .1 .0), tt))
-fits-low (I.Store o a b n) h = (low (h .0), (low (h .1 .0), tt))
-fits-low (I.OpImm o r a n) h = (low (h .0), (low (h .1 .0), tt))
-fits-low (I.OpReg o r a b) h = (low (h .0), (low (h .1 .0), (low (h .1 .1 .0), tt)))
-fits-low (I.Fence r a n) h = tt
-fits-low (I.Csr o r a n) h = (low (h .0), (low (h .1 .0), tt))
-fits-low (I.CsrImm o r i n) h = (low (h .0), tt)
-fits-low (I.Vector o a) h = source-low (a .src) (h .1 .1 .0)
-fits-low (I.VMove r s) h = source-low s (h .1 .0)
-fits-low (I.VMoveXS r b) h = (low (h .0), tt)
-fits-low (I.VMoveSX r a) h = (low (h .1 .0), tt)
-fits-low (I.Vid r) h = tt
-fits-low (I.VBranch o a b n) h = tt
-fits-low I.Join h = tt
-fits-low (I.SetRpc r a n) h = (low (h .0), (low (h .1 .0), tt))
-fits-low I.EndPrg h = tt
-fits-low (I.Barrier n) h = tt
-fits-low (I.VLoad s o r a n) h = tt
-fits-low (I.VStore s o a b n) h = tt
-fits-low (I.RegExt n) h = tt
-fits-low (I.RegExtI n) h = tt
 
 low-at : (k : List ℕ) (m : State) → Low (instrAt k m)
 unfolding prefixed
@@ -93,12 +53,9 @@ choice : {A B : Type 0} (f : A → B) (b : Bool) (x y : A) → cond b (f x) (f y
 choice f true x y = refl
 choice f false x y = refl
 
--- VBRANCH, JOIN and a CSR word, by what they ask
+-- VBRANCH and a CSR word, by what they ask
 abbrev partBy : ℕ → ℕ → Bool → Bool → Warp → Warp
 partBy e p b c w = cond b (next w) (cond c (withPc p w) (openOf e p w))
-
-abbrev joinBy : Bool → Bool → Bool → Warp → Warp
-joinBy b c d w = cond b (next w) (cond c (cond d (closeOf (lastSplit w) w) (turnOf (lastSplit w) w)) (next w))
 
 abbrev csrBy : XReg → ℕ → ℕ → Bool → Bool → Warp → Warp
 csrBy r old new b c w = next (writeX r old (cond b (cond c (withPrint new w) (withRpc new w)) w))
@@ -121,13 +78,7 @@ module _ (t : List ℕ) where
 
   joins : (w : Warp) → joinOf (more w) ≡ more (joinOf w)
   unfolding joinOf
-  joins w = go (eqb (w .depth) 0) (eqb (w .pc) (lastSplit w .rpc)) (lastSplit w .phaseTwo)
-    where
-      go : (b c d : Bool) → joinBy b c d (more w) ≡ more (joinBy b c d w)
-      go true c d = refl
-      go false true true = refl
-      go false true false = refl
-      go false false d = refl
+  joins w = join-through more (lastSplit w) w refl refl refl (eqb (w .depth) 0) (eqb (w .pc) (lastSplit w .rpc)) (lastSplit w .phaseTwo)
 
   module _ (w : Warp) (l : scalarRegisters ≤ length (w .x)) where
     -- a register below 64 lies before the words of t

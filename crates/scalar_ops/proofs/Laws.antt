@@ -8,7 +8,7 @@ use Rattle.word.specs.Word.{applyOf, extendOf}
 use Rattle.isa.specs.declared.Instr.the-variants as I
 use Rattle.isa.specs.Fields.{fieldsOf, x as xOf}
 use Rattle.isa.specs.Prefix.{onFields}
-use Rattle.isa.specs.Wide.{digitsIn, xdIn, xs1In, xs2In, wideOf}
+use Rattle.isa.specs.Wide.{numbersIn, xdIn, xs1In, xs2In, wideOf}
 use Rattle.isa.specs.Scalar.{opAs}
 use Rattle.isa.specs.Kinds.{rowOf}
 use Rattle.layout.specs.Words.{flatCount, warpOf}
@@ -27,7 +27,7 @@ module _ (k w : ℕ) (o : Op) where
       → (g s v d : List ℕ) → length s ≡ flatCount → Handles (execOf (wideOf k w)) c (lists g h x s v d) (lists g h' x' s v d)
   unfolding warpOf effectOf refusalsOf
   reg-arm y c h x h' x' e ey q g s v d n =
-      told (ap (onFields (digitsIn w)) e) (given (I.OpReg o (xdIn w) (xs1In w) (xs2In w)) (xdIn w) y c g h x s v d h' x' (q .0) (q .1 g s n) refl
+      told (ap (onFields (numbersIn w)) e) (given (I.OpReg o (xdIn w) (xs1In w) (xs2In w)) (xdIn w) y c g h x s v d h' x' (q .0) (q .1 g s n) refl
       (ap (λ (z : ℕ). goes (putsIn (xdIn w) z (warpOf g h x s))) (sym ey)))
 
   pub imm-arm :
@@ -37,5 +37,5 @@ module _ (k w : ℕ) (o : Op) where
       → (g s v d : List ℕ) → length s ≡ flatCount → Handles (execOf (wideOf k w)) c (lists g h x s v d) (lists g h' x' s v d)
   unfolding warpOf effectOf refusalsOf
   imm-arm m y c h x h' x' e ey q g s v d n =
-      told (ap (onFields (digitsIn w)) e) (given (I.OpImm o (xdIn w) (xs1In w) m) (xdIn w) y c g h x s v d h' x' (q .0) (q .1 g s n) refl
+      told (ap (onFields (numbersIn w)) e) (given (I.OpImm o (xdIn w) (xs1In w) m) (xdIn w) y c g h x s v d h' x' (q .0) (q .1 g s n) refl
       (ap (λ (z : ℕ). goes (putsIn (xdIn w) z (warpOf g h x s))) (sym ey)))

@@ -1,7 +1,7 @@
 -- What a step does to the splits, and what holds through any number of steps.
 use Prim.Native.Nat.{ℕ, suc, _+_, _-_, _%_, _^_, _≤_, _<_}
 use mathlib.Core.Path.{_≡_, refl, sym, _∙_, ap, subst}
-use mathlib.Core.Bool.{Bool, true, false, cond}
+use mathlib.Core.Bool.{true}
 use mathlib.Core.List.{List}
 use mathlib.Core.Logic.{⊎-elim}
 use native.Mathlib.Nat.{eq-or-lt-of-le}
@@ -24,7 +24,7 @@ use Rattle.lanes.specs.Lanes.{lanesMax}
 use Rattle.warp.specs.Warp.{splitCount, zeroSplit, withPrefix}
 use Rattle.warp.specs.WellFormed.{splitOkOf, chainOf}
 use Rattle.warp.specs.Splits.{opened, openOf, lastSplit, turned, turnOf, closeOf, joinOf}
-use Rattle.warp.proofs.SplitLaws.{by-cond}
+use Rattle.warp.proofs.SplitLaws.{by-cond, join-through}
 use Rattle.warp.specs.Parked.{parkedIn, CutInTwo}
 use Rattle.warp.proofs.Chain.{Good, good, chain-covered, chain-fewer, chain-step, chain-set, chain-more}
 
@@ -253,15 +253,9 @@ open-prefix : (q : Prefix) (e p : ℕ) (w : Warp) → openOf e p (withPrefix q w
 unfolding openOf
 open-prefix q e p w = refl
 
-prefix-cond : (q : Prefix) (b : Bool) (x y u v : Warp) → u ≡ withPrefix q x → v ≡ withPrefix q y → cond b u v ≡ withPrefix q (cond b x y)
-prefix-cond q true x y u v e f = e
-prefix-cond q false x y u v e f = f
-
 join-prefix : (q : Prefix) (w : Warp) → joinOf (withPrefix q w) ≡ withPrefix q (joinOf w)
 unfolding joinOf
-join-prefix q w =
-    prefix-cond q (eqb (w .depth) 0) _ _ _ _ refl
-    (prefix-cond q (eqb (w .pc) (lastSplit w .rpc)) _ _ _ _ (prefix-cond q (lastSplit w .phaseTwo) _ _ _ _ refl refl) refl)
+join-prefix q w = join-through (withPrefix q) (lastSplit w) w refl refl refl (eqb (w .depth) 0) (eqb (w .pc) (lastSplit w .rpc)) (lastSplit w .phaseTwo)
 
 leaves-prefix : (q : Prefix) (w u v : Warp) → u ≡ withPrefix q w → MoveLeaves u v → MoveLeaves w v
 leaves-prefix q w u v e l =

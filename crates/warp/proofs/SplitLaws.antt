@@ -3,6 +3,7 @@ use Prim.Native.Nat.{ℕ}
 use mathlib.Core.Path.{_≡_, refl}
 use mathlib.Core.Bool.{Bool, true, false, cond}
 use borrow.Author.Tests.{eq-eqb, ne-eqb}
+use Rattle.warp.specs.declared.Split.{Split}
 use Rattle.warp.specs.declared.Warp.{Warp}
 use Rattle.warp.specs.Warp.{withPc, next}
 use Rattle.warp.specs.Splits.{openOf, parted, lastSplit, turnOf, closeOf, joinOf}
@@ -29,6 +30,16 @@ module _ (w : Warp) (d : w .depth ≡ 0 → ⊥) where
     pub join-close : lastSplit w .phaseTwo ≡ true → closeOf (lastSplit w) w ≡ joinOf w
     unfolding joinOf
     join-close s = simp (ne-eqb _ _ d, eq-eqb _ _ p, s)
+
+-- JOIN, by what it asks of the warp: what it does is done after f as before it, where each of its three ways is
+abbrev pub joinBy : Split → Bool → Bool → Bool → Warp → Warp
+joinBy s b c d w = cond b (next w) (cond c (cond d (closeOf s w) (turnOf s w)) (next w))
+
+pub join-through : (f : Warp → Warp) (s : Split) (w : Warp) → next (f w) ≡ f (next w) → closeOf s (f w) ≡ f (closeOf s w) → turnOf s (f w) ≡ f (turnOf s w) → (b c d : Bool) → joinBy s b c d (f w) ≡ f (joinBy s b c d w)
+join-through f s w on closed turned true c d = on
+join-through f s w on closed turned false true true = closed
+join-through f s w on closed turned false true false = turned
+join-through f s w on closed turned false false d = on
 
 module _ (e p : ℕ) (w : Warp) where
   pub parted-none : e ≡ 0 → next w ≡ parted e p w

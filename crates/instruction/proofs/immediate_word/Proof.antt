@@ -7,7 +7,7 @@ use Rattle.isa.specs.Table.{on}
 use Rattle.isa.specs.Kinds.{ofImmediates}
 use Rattle.isa.proofs.Laws.{past}
 use Rattle.isa.specs.Prefix.{onFields}
-use Rattle.isa.specs.Wide.{digitsIn}
+use Rattle.isa.specs.Wide.{numbersIn}
 use Rattle.instruction.proofs.immediate_word.Statement.{statement}
 use Rattle.instruction.proofs.immediate_word.Tie as tie
 
@@ -26,4 +26,4 @@ immediate-word-spec =
     (λ c. c .of-immediate4 .ensures ∙ simp (c .before .match .keys7))
     (λ c. c .of-immediate5 .ensures ∙ simp (c .before .match .keys8))
     (λ c. c .of-immediate6 .ensures ∙ simp (c .before .match .keys9))
-    (λ c. let w = c .before .args .w in ap (onFields (digitsIn w)) (past (on (fieldsOf w)) Refused _ ofImmediates [] (c .match .rest))))
+    (λ c. let w = c .before .args .w in ap (onFields (numbersIn w)) (past (on (fieldsOf w)) Refused _ ofImmediates [] (c .match .rest))))

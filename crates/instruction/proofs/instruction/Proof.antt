@@ -9,7 +9,7 @@ use Rattle.isa.specs.Kinds.{scalarGroups, laneGroups, ofRegisters, ofImmediates
 use Rattle.isa.proofs.Laws.{past}
 use Rattle.isa.proofs.Words.{csr-is, vector-is}
 use Rattle.isa.specs.Prefix.{onFields}
-use Rattle.isa.specs.Wide.{digitsIn}
+use Rattle.isa.specs.Wide.{numbersIn}
 use Rattle.instruction.proofs.instruction.Statement.{statement}
 use Rattle.instruction.proofs.instruction.Tie as tie
 
@@ -49,4 +49,4 @@ instruction-spec =
     let w = p .before .args .w in
     c .lane-word .ensures
     ∙ rw (lt-leb _ _ (p .if1 .left))
-    (ap (onFields (digitsIn w)) (past (on (fieldsOf w)) Refused _ scalarGroups (laneGroups ++ ofRegisters ++ ofImmediates) (c .before .match .rest)))))
+    (ap (onFields (numbersIn w)) (past (on (fieldsOf w)) Refused _ scalarGroups (laneGroups ++ ofRegisters ++ ofImmediates) (c .before .match .rest)))))

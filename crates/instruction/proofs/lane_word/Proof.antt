@@ -7,7 +7,7 @@ use Rattle.isa.specs.Table.{on}
 use Rattle.isa.specs.Kinds.{laneGroups, ofRegisters, ofImmediates}
 use Rattle.isa.proofs.Laws.{past}
 use Rattle.isa.specs.Prefix.{onFields}
-use Rattle.isa.specs.Wide.{digitsIn}
+use Rattle.isa.specs.Wide.{numbersIn}
 use Rattle.instruction.proofs.lane_word.Statement.{statement}
 use Rattle.instruction.proofs.lane_word.Tie as tie
 
@@ -51,4 +51,4 @@ lane-word-spec =
     (λ c.
     let w = c .before .before .args .w in
     c .register-word .ensures
-    ∙ ap (onFields (digitsIn w)) (past (on (fieldsOf w)) Refused _ laneGroups (ofRegisters ++ ofImmediates) (c .before .match .rest))))
+    ∙ ap (onFields (numbersIn w)) (past (on (fieldsOf w)) Refused _ laneGroups (ofRegisters ++ ofImmediates) (c .before .match .rest))))

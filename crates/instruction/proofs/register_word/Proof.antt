@@ -6,7 +6,7 @@ use Rattle.isa.specs.Table.{on}
 use Rattle.isa.specs.Kinds.{ofRegisters, ofImmediates}
 use Rattle.isa.proofs.Laws.{past}
 use Rattle.isa.specs.Prefix.{onFields}
-use Rattle.isa.specs.Wide.{digitsIn}
+use Rattle.isa.specs.Wide.{numbersIn}
 use Rattle.instruction.proofs.register_word.Statement.{statement}
 use Rattle.instruction.proofs.register_word.Tie as tie
 
@@ -38,4 +38,4 @@ register-word-spec =
     (λ c. c .of-registers18 .ensures ∙ simp (c .before .match .keys18))
     (λ c.
     let w = c .before .before .args .w in
-    c .immediate-word .ensures ∙ ap (onFields (digitsIn w)) (past (on (fieldsOf w)) Refused _ ofRegisters ofImmediates (c .before .match .rest))))
+    c .immediate-word .ensures ∙ ap (onFields (numbersIn w)) (past (on (fieldsOf w)) Refused _ ofRegisters ofImmediates (c .before .match .rest))))

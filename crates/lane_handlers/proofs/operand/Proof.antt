@@ -13,7 +13,7 @@ use Prim.Native.Nat.{ℕ}
 use Rattle.word.specs.Word.{extendOf}
 use Rattle.isa.specs.declared.Source.the-variants as From
 use Rattle.isa.specs.Prefix.{onSource}
-use Rattle.isa.specs.Wide.{isLong, digitsIn}
+use Rattle.isa.specs.Wide.{isLong, numbersIn}
 use Rattle.lanes.specs.declared.Operand.the-variants.{Word}
 use Rattle.definition.specs.State.{State, state}
 use Rattle.definition.specs.Exec.{sourceOf}

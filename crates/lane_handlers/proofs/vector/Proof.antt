@@ -8,7 +8,7 @@ use Rattle.word.specs.declared.Op.{Op}
 use Rattle.isa.specs.declared.VReg.{VReg}
 use Rattle.isa.specs.Fields.{fieldsOf}
 use Rattle.isa.specs.Prefix.{onSource, onFields}
-use Rattle.isa.specs.Wide.{digitsIn, vdIn, vs2In}
+use Rattle.isa.specs.Wide.{numbersIn, vdIn, vs2In}
 use Rattle.isa.specs.Kinds.{opLimit, laneOpWord, sourceIn}
 use Rattle.isa.specs.Number.{opAt}
 use Rattle.lanes.specs.declared.Lane.{Lane}
@@ -69,11 +69,11 @@ returns c =
     let a = start t .args in
     let f = fieldsOf (a .w) in
     λ s d n.
-    file-written (onFields (digitsIn (a .w)) (laneOpWord (opAt (a .kind % opLimit)) f)) (a .g .now) (a .h .now) (a .x .now) s (a .v .now) d _ (start t .pre .long) n (c .next .ensures) refl (bit (maskIn (a .h .now))) _ _ _ refl
+    file-written (onFields (numbersIn (a .w)) (laneOpWord (opAt (a .kind % opLimit)) f)) (a .g .now) (a .h .now) (a .x .now) s (a .v .now) d _ (start t .pre .long) n (c .next .ensures) refl (bit (maskIn (a .h .now))) _ _ _ refl
     (given (c .before .before)
     ∙ told _ _ _ _ _ _ _ (a .v .now) _ _ _ _ (t .before .before .threads .ensures) (t .before .vd .ensures .0) (op t .op-at .ensures) (t .vs2 .ensures .0) (op t .before .operand .ensures .1 (a .g .now) (a .h .now) s (a .v .now) d)
     ∙ ap (λ (e : Lane → ℕ). writeLanes (fixedIn (a .g .now) .numt) (bit (maskIn (a .h .now))) (vdIn (a .w)) e (a .v .now))
-    (shift-operand (opAt (a .kind % opLimit)) (a .v .now) (vs2In (a .w)) (onSource (digitsIn (a .w)) (sourceIn f)) (state (warpOf (a .g .now) (a .h .now) (a .x .now) s) (a .v .now) d)))
+    (shift-operand (opAt (a .kind % opLimit)) (a .v .now) (vs2In (a .w)) (onSource (numbersIn (a .w)) (sourceIn f)) (state (warpOf (a .g .now) (a .h .now) (a .x .now) s) (a .v .now) d)))
 
 pub vector-spec : {M : Type 1} → statement M
 vector-spec =

@@ -14,5 +14,5 @@ takes-spec =
     let p = c .before .before .before .before in
     let k = p .args .kind in
     let n = p .args .bits in
-    judged k n (p .args .word) _ (p .pre .0) (p .pre .1) (omega arith)
+    judged k n (p .args .word) _ (p .pre)
     (c .judge .ensures (prefix k n) (known k n (c .before .before .before .scalar .ensures) (c .before .before .scalar2 .ensures) (c .before .scalar3 .ensures)))))

@@ -7,7 +7,8 @@ pub widen-spec : {M : Type 1} → statement M
 widen-spec =
     tie.close
     (tie.spec
-    (λ c. search needs) (λ c. search needs)
-    (λ c. rw (eq-eqb _ _ (c .if1 .taken)))
-    (λ c. search needs) (λ c. search needs) (λ c. search needs) (λ c. search needs) (λ c. search needs) (λ c. search needs) (λ c. search needs)
-    (λ c. rw (ne-eqb _ _ (c .if1 .left))))
+    (λ c κs. search needs)
+    (λ c. rw (eq-eqb _ _ (c .before .if1 .taken)) (c .wide .ensures))
+    (λ c. search needs)
+    (λ c κs. search needs)
+    (λ c. rw (ne-eqb _ _ (c .before .if1 .left)) (c .wide2 .ensures)))

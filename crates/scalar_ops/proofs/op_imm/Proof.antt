@@ -4,7 +4,7 @@ use Rattle.handlers.proofs.Laws.{refused, told}
 use Rattle.handlers.specs.Handles.{lists}
 use Rattle.isa.specs.Fields.{fieldsOf, immI}
 use Rattle.isa.specs.Prefix.{onFields}
-use Rattle.isa.specs.Wide.{digitsIn}
+use Rattle.isa.specs.Wide.{numbersIn}
 use Rattle.isa.specs.Kinds.{ofImmediates, rowOf}
 use Rattle.isa.proofs.Laws.{past}
 use Rattle.isa.specs.Table.{on}
@@ -39,4 +39,4 @@ op-imm-spec =
     (λ c. let four = c .before .before .before .before in let a = (four .before .before .before .args) in let f = fieldsOf (a .w) in imm-arm (a .kind) (a .w) O.And (immI f) _ _ (a .h .now) (a .x .now) _ _ (rw ((four .before .before .match) .keys7)) (ap₂ (applyOf O.And) ((c .before .before .before .before .first7) .ensures) ((c .before .before .before .immediate4) .ensures)) ((c .gives7) .ensures))
     (λ c. let four = c .before .before .before .before in let a = (four .before .before .before .args) in let f = fieldsOf (a .w) in imm-arm (a .kind) (a .w) O.Or (immI f) _ _ (a .h .now) (a .x .now) _ _ (rw ((four .before .before .match) .keys8)) (ap₂ (applyOf O.Or) ((c .before .before .before .before .first8) .ensures) ((c .before .before .before .immediate5) .ensures)) ((c .gives8) .ensures))
     (λ c. let four = c .before .before .before .before in let a = (four .before .before .before .args) in let f = fieldsOf (a .w) in imm-arm (a .kind) (a .w) O.Xor (immI f) _ _ (a .h .now) (a .x .now) _ _ (rw ((four .before .before .match) .keys9)) (ap₂ (applyOf O.Xor) ((c .before .before .before .before .first9) .ensures) ((c .before .before .before .immediate6) .ensures)) ((c .gives9) .ensures))
-    (λ c. let a = (c .before .args) in let f = fieldsOf (a .w) in λ g s v d n. told (ap (onFields (digitsIn (a .w))) ((c .before .pre) .1 ∙ sym (past (on f) Refused _ ofImmediates [] ((c .match) .rest)))) (refused I.Refused 6 (lists g (a .h .now) (a .x .now) s v d) (λ z. omega arith) ((c .before .pre) .0) n refl)))
+    (λ c. let a = (c .before .args) in let f = fieldsOf (a .w) in λ g s v d n. told (ap (onFields (numbersIn (a .w))) ((c .before .pre) .1 ∙ sym (past (on f) Refused _ ofImmediates [] ((c .match) .rest)))) (refused I.Refused 6 (lists g (a .h .now) (a .x .now) s v d) (λ z. omega arith) ((c .before .pre) .0) n refl)))

@@ -8,7 +8,7 @@ use Rattle.isa.specs.Vector.{fromV, fromX, fromI}
 use Rattle.isa.proofs.Laws.{past}
 use Rattle.isa.specs.Kinds.{sourceIn}
 use Rattle.isa.specs.Prefix.{onSource}
-use Rattle.isa.specs.Wide.{digitsIn}
+use Rattle.isa.specs.Wide.{numbersIn}
 use Rattle.isa.proofs.fields.source.Statement.{statement}
 use Rattle.isa.proofs.fields.source.Tie as tie
 
@@ -24,4 +24,4 @@ source-spec =
     (λ c.
     let f = fieldsOf (c .before .before .args .w) in
     ap From.X (c .xs1 .ensures .0)
-    ∙ ap (onSource (digitsIn (c .before .before .args .w))) (past (λ s. s) (fromX f) _ (0b000 ⇒ fromV f ∷ 0b010 ⇒ fromV f ∷ 0b011 ⇒ fromI f ∷ []) [] (c .before .match .rest))))
+    ∙ ap (onSource (numbersIn (c .before .before .args .w))) (past (λ s. s) (fromX f) _ (0b000 ⇒ fromV f ∷ 0b010 ⇒ fromV f ∷ 0b011 ⇒ fromI f ∷ []) [] (c .before .match .rest))))
