@@ -196,10 +196,11 @@ fn widened(h: &[u32; MOVING], w: u32) -> WideWord
     ensures { λ r. ⌜ Widens (prefixIn (now (h .entry))) w (r .code) (r .word) ⌝ }
 {
     let kind = h[PREFIX];
+    let alone = fields::plain(w);
     if kind == 0 {
         return WideWord {
             code: answer::DONE,
-            word: fields::plain(w),
+            word: alone,
         };
     }
     let bits = h[BITS];
