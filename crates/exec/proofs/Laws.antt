@@ -1,5 +1,5 @@
 -- From what the callees do with the lent words to what the definition says of the state that they stand for.
-use Prim.Native.Nat.{ℕ, _+_, _-_, _*_, _/_, _%_, _^_, _<_, _≤_}
+use Prim.Native.Nat.{ℕ, _+_, _-_, _*_, _/_, _^_, _<_, _≤_}
 use mathlib.Core.Path.{_≡_, refl, sym, ap, _∙_}
 use mathlib.Core.Bool.{Bool, true, false, not, _&&_, _||_, cond}
 use mathlib.Core.List.{List, [], _∷_}
@@ -34,7 +34,7 @@ use Rattle.definition.specs.Exec.{goes, effectOf}
 use Rattle.definition.specs.Step.{execOf, stepOf, Fetched, fetched, fetchOf}
 use Rattle.definition.proofs.Sizes.{sizes}
 use Rattle.definition.proofs.Tests.{keeping, step-unfetched, step-fetched, exec-refused}
-use Rattle.handlers.specs.Handles.{lists, Handles, Lists}
+use Rattle.handlers.specs.Handles.{lists, Handles}
 use Rattle.handlers.proofs.Laws.{moved}
 use Rattle.lane_handlers.specs.Lanes.{Lanes}
 use Rattle.exec.specs.Ready.{Ready, Started, Lies, Widens}

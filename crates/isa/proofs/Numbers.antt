@@ -6,7 +6,6 @@ use mathlib.Core.Bool.{Bool, true, false, cond}
 use native.Mathlib.Omega.{arith}
 use lib.Dec.{eqb, leb, ltb}
 use lib.ListN.{drop}
-use borrow.Author.Tests.{eq-eqb, ne-eqb}
 use Rattle.answer.specs.Rows.{_⇒_}
 use Rattle.word.specs.declared.Op.{Op}
 use Rattle.isa.specs.declared.Source.{Source}
@@ -144,13 +143,13 @@ module _ (c : Fields) (f g : OnFields) (h : AgreeAt c f g) where
       ),
     )
 
+    op : {o : Op} {j : ℕ} → k ≡ j → P (opAs o c)
+    op e = of-registers _
+
     register-rows : Rows P (on c) k ofRegisters
     register-rows =
-        rows-append P (on c) k ofSums ofProducts (op 0, (op 1, (op 2, (op 3, (op 4, (op 5, (op 6, (op 7, (op 8, (op 9, tt))))))))))
-        (op 0, (op 1, (op 2, (op 3, (op 4, (op 5, (op 6, (op 7, tt))))))))
-      where
-        op : (n : ℕ) {o : Op} {j : ℕ} → k ≡ j → P (opAs o c)
-        op n e = of-registers _
+        rows-append P (on c) k ofSums ofProducts (op, (op, (op, (op, (op, (op, (op, (op, (op, (op, tt))))))))))
+        (op, (op, (op, (op, (op, (op, (op, (op, tt))))))))
 
     immediate-rows : Rows P (on c) k ofImmediates
     immediate-rows = (

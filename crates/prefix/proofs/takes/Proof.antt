@@ -1,4 +1,3 @@
-use native.Mathlib.Omega.{arith}
 use borrow.Author.Needs.{needs}
 use Rattle.isa.specs.Prefix.{prefix}
 use Rattle.prefix.proofs.Judged.{known, judged}
