@@ -1,7 +1,7 @@
 #!/bin/sh
 # tools/timing.sh [REPETITIONS]: times the proved library against the reference. Builds the three libraries for the machine at hand,
 # runs `compare`, which must find no difference, then `timing` in four processes, and prints a table of their medians, and last
-# `timing class`. No time is held to anything, and no other work should run beside it (docs/SPEED.md).
+# `timing words` and `timing class`. No time is held to anything, and no other work should run beside it (docs/SPEED.md).
 set -eu
 usage() { echo 'usage: tools/timing.sh [REPETITIONS]   (how often each machine runs each kernel in a process, 1 to 65535; 201 if not given)' >&2; exit 2; }
 [ $# -le 1 ] || usage
@@ -51,5 +51,7 @@ awk -F ' *[|] *' '
             printf "| %s | %s | %.1f | %.1f | %.2f |\n", k, steps[k], median(k, 4), median(k, 6), median(k, 8)
         }
     }' "$work/1" "$work/2" "$work/3" "$work/4"
-echo
-"$programs/timing" class "$repetitions"
+for what in words class; do
+    echo
+    "$programs/timing" "$what" "$repetitions"
+done

@@ -17,7 +17,8 @@ start : (acc : Type 0) (k : ℕ) (xs : List ℕ) → NoneOf acc k xs → acc
 start acc k [] h = h
 start acc k (a ∷ ys) h = start (acc × (k ≡ a → ⊥)) k ys h .0
 
-not-one : (acc : Type 0) (k : ℕ) (xs : List ℕ) → NoneOf acc k xs → oneOf xs k ≡ false
+-- so k is not one of them
+pub not-one : (acc : Type 0) (k : ℕ) (xs : List ℕ) → NoneOf acc k xs → oneOf xs k ≡ false
 not-one acc k [] h = refl
 not-one acc k (a ∷ ys) h = rw (ne-eqb k a (start (acc × (k ≡ a → ⊥)) k ys h .1)) (not-one (acc × (k ≡ a → ⊥)) k ys h)
 
@@ -49,7 +50,7 @@ pub in-range : (P : ℕ → Bool) (xs : List ℕ) (lo n k : ℕ) → T (each P x
 in-range P xs lo n k t a b h = within P xs k (not-one (Unit {0}) k xs h) lo n t a b
 
 -- every code below n has an arm of its own
-pub excluded : (xs : List ℕ) (n k : ℕ) → T (each (λ k. false) xs 0 n) → k < n → NoneOf (Unit {0}) k xs → ⊥
+excluded : (xs : List ℕ) (n k : ℕ) → T (each (λ k. false) xs 0 n) → k < n → NoneOf (Unit {0}) k xs → ⊥
 excluded xs n k t b h = in-range (λ k. false) xs 0 n k t (omega arith) (omega arith) h
 
 -- the last arm of numbers that are at most n

@@ -1,16 +1,17 @@
-// A word's kind, by opcode, then funct3, then funct7 or funct6, with a range where codes adjoin.
+// A word's kind. Where two codes tell rows apart they are matched as one number, an arm a number: the compiler makes one table of that, and
+// tests after it of an arm with a range (docs/SPEED.md).
 mod vector;
 
 ghost use mathlib.Core.Path.{_≡_};
+ghost use mathlib.Core.Bool.{false};
 ghost use mathlib.Core.List.{[], _∷_};
-ghost use Prim.Native.Nat.{ℕ, _%_, _^_};
-ghost use Rattle.answer.specs.Rows.{_⇒_};
-ghost use Rattle.isa.specs.declared.Instr.the-variants.{Refused};
+ghost use Prim.Native.Nat.{ℕ, _+_, _*_, _%_, _^_, _<_};
+ghost use Rattle.answer.specs.Rows.{oneOf};
 ghost use Rattle.isa.specs.declared.Instr.{Instr};
 ghost use Rattle.isa.specs.Fields.{fieldsOf, immI};
-ghost use Rattle.isa.specs.Table.{seek, fixed as fixedTo};
-ghost use Rattle.isa.specs.Scalar.{jalrWord, branchWord, loadWord, storeWord, leftShifts, rightShifts, shiftWord, opImmWord, opWord, fenceWord, csrWord};
-ghost use Rattle.isa.specs.Ventus.{joinWord, splitsWord, endPrgWord, barrierWord, stopWord, prefixWord, warpWord, laneAccessWord, privateWord};
+ghost use Rattle.isa.specs.Table.{wordAt, fixed as fixedTo};
+ghost use Rattle.isa.specs.Scalar.{jalrWord, loadWord, storeWord, shifts, opWord, fenceWord};
+ghost use Rattle.isa.specs.Ventus.{joinWord, endPrgWord, barrierWord, stopWord, prefixWord, warpWord, privateWord};
 ghost use Rattle.isa.specs.Decode.{decodeOf};
 ghost use Rattle.isa.specs.Kinds.{instrOf};
 use isa::kinds;
@@ -22,21 +23,19 @@ fn fixed(field: u32, value: u32, kind: u32) -> u32
     if field == value { kind } else { kinds::NONE }
 }
 
+// Where a code's row with the word's funct3 stands: eight rows a code.
+fn index(code: u32, w: u32) -> u32
+    requires { ⌜ code < 2 ^ 7 ⌝ }
+    ensures { λ r. ⌜ r ≡ fieldsOf w .funct3 + code * 8 ⌝ }
+{
+    w / 4096 % 8 + code * 8
+}
+
 fn jalr(w: u32) -> u32
     ensures { λ r. ⌜ instrOf r w ≡ jalrWord (fieldsOf w) ⌝ }
 {
     let funct3 = w / 4096 % 8;
     fixed(funct3, 0b000, kinds::JALR)
-}
-
-fn branch(w: u32) -> u32
-    ensures { λ r. ⌜ instrOf r w ≡ branchWord (fieldsOf w) ⌝ }
-{
-    let funct3 = w / 4096 % 8;
-    match funct3 {
-        0b000..=0b001 | 0b100..=0b111 => kinds::BRANCH,
-        _ => kinds::NONE,
-    }
 }
 
 fn load(w: u32) -> u32
@@ -59,66 +58,43 @@ fn store(w: u32) -> u32
     }
 }
 
-fn left_shift(w: u32) -> u32
-    ensures { λ r. ⌜ instrOf r w ≡ shiftWord leftShifts (fieldsOf w) ⌝ }
+// OP-IMM's shifts, by funct3 and funct7 together.
+fn shift(w: u32) -> u32
+    ensures { λ r. ⌜ instrOf r w ≡ wordAt (fieldsOf w) (fieldsOf w .funct3) shifts ⌝ }
 {
     let funct7 = w / 33554432 % 128;
-    fixed(funct7, 0b0000000, kinds::SLLI)
-}
-
-fn right_shift(w: u32) -> u32
-    ensures { λ r. ⌜ instrOf r w ≡ shiftWord rightShifts (fieldsOf w) ⌝ }
-{
-    let funct7 = w / 33554432 % 128;
-    match funct7 {
-        0b0000000 => kinds::SRLI,
-        0b0100000 => kinds::SRAI,
+    match index(funct7, w) {
+        0b0000000_001 => kinds::SLLI,
+        0b0000000_101 => kinds::SRLI,
+        0b0100000_101 => kinds::SRAI,
         _ => kinds::NONE,
     }
 }
 
-fn op_imm(w: u32) -> u32
-    ensures { λ r. ⌜ instrOf r w ≡ opImmWord (fieldsOf w) ⌝ }
-{
-    let funct3 = w / 4096 % 8;
-    match funct3 {
-        0b000 => kinds::ADDI,
-        0b010 => kinds::SLTI,
-        0b011 => kinds::SLTIU,
-        0b100 => kinds::XORI,
-        0b110 => kinds::ORI,
-        0b111 => kinds::ANDI,
-        0b001 => left_shift(w),
-        0b101 => right_shift(w),
-        _ => kinds::NONE,
-    }
-}
-
-fn by_funct7(funct7: u32, base: u32, multiply: u32, alternate: u32) -> u32
-    ensures { λ r. ⌜ ((w : ℕ) → instrOf r w ≡ seek (λ k. instrOf k w) Refused funct7 (0b0000000 ⇒ base ∷ 0b0000001 ⇒ multiply ∷ 0b0100000 ⇒ alternate ∷ [])) ⌝ }
-{
-    match funct7 {
-        0b0000000 => base,
-        0b0000001 => multiply,
-        0b0100000 => alternate,
-        _ => kinds::NONE,
-    }
-}
-
+// OP, by funct7 and funct3 together.
 fn op(w: u32) -> u32
     ensures { λ r. ⌜ instrOf r w ≡ opWord (fieldsOf w) ⌝ }
 {
-    let funct3 = w / 4096 % 8;
     let funct7 = w / 33554432 % 128;
-    match funct3 {
-        0b000 => by_funct7(funct7, kinds::ADD, kinds::MUL, kinds::SUB),
-        0b001 => by_funct7(funct7, kinds::SLL, kinds::MULH, kinds::NONE),
-        0b010 => by_funct7(funct7, kinds::SLT, kinds::MULHSU, kinds::NONE),
-        0b011 => by_funct7(funct7, kinds::SLTU, kinds::MULHU, kinds::NONE),
-        0b100 => by_funct7(funct7, kinds::XOR, kinds::DIV, kinds::NONE),
-        0b101 => by_funct7(funct7, kinds::SRL, kinds::DIVU, kinds::SRA),
-        0b110 => by_funct7(funct7, kinds::OR, kinds::REM, kinds::NONE),
-        0b111 => by_funct7(funct7, kinds::AND, kinds::REMU, kinds::NONE),
+    match index(funct7, w) {
+        0b0000000_000 => kinds::ADD,
+        0b0000000_001 => kinds::SLL,
+        0b0000000_010 => kinds::SLT,
+        0b0000000_011 => kinds::SLTU,
+        0b0000000_100 => kinds::XOR,
+        0b0000000_101 => kinds::SRL,
+        0b0000000_110 => kinds::OR,
+        0b0000000_111 => kinds::AND,
+        0b0000001_000 => kinds::MUL,
+        0b0000001_001 => kinds::MULH,
+        0b0000001_010 => kinds::MULHSU,
+        0b0000001_011 => kinds::MULHU,
+        0b0000001_100 => kinds::DIV,
+        0b0000001_101 => kinds::DIVU,
+        0b0000001_110 => kinds::REM,
+        0b0000001_111 => kinds::REMU,
+        0b0100000_000 => kinds::SUB,
+        0b0100000_101 => kinds::SRA,
         _ => kinds::NONE,
     }
 }
@@ -130,33 +106,11 @@ fn fence(w: u32) -> u32
     fixed(funct3, 0b000, kinds::FENCE)
 }
 
-fn csr(w: u32) -> u32
-    ensures { λ r. ⌜ instrOf r w ≡ csrWord (fieldsOf w) ⌝ }
-{
-    let funct3 = w / 4096 % 8;
-    match funct3 {
-        0b001..=0b011 | 0b101..=0b111 => kinds::CSR,
-        _ => kinds::NONE,
-    }
-}
-
 fn join(w: u32) -> u32
     ensures { λ r. ⌜ instrOf r w ≡ joinWord (fieldsOf w) ⌝ }
 {
     let rest = w / 33554432 % 128 + w / 1048576 % 32 + w / 32768 % 32 + w / 128 % 32;
     fixed(rest, 0, kinds::JOIN)
-}
-
-fn splits(w: u32) -> u32
-    ensures { λ r. ⌜ instrOf r w ≡ splitsWord (fieldsOf w) ⌝ }
-{
-    let funct3 = w / 4096 % 8;
-    match funct3 {
-        0b000..=0b001 | 0b100..=0b111 => kinds::VBRANCH,
-        0b010 => join(w),
-        0b011 => kinds::SETRPC,
-        _ => kinds::NONE,
-    }
 }
 
 fn end_prg(w: u32) -> u32
@@ -204,17 +158,6 @@ fn warp_word(w: u32) -> u32
     }
 }
 
-fn lane_access(w: u32) -> u32
-    ensures { λ r. ⌜ instrOf r w ≡ laneAccessWord (fieldsOf w) ⌝ }
-{
-    let funct3 = w / 4096 % 8;
-    match funct3 {
-        0b000..=0b010 | 0b100..=0b101 => kinds::VLOAD,
-        0b011 | 0b110..=0b111 => kinds::VSTORE,
-        _ => kinds::NONE,
-    }
-}
-
 // Bit 31 is zero.
 fn private(w: u32) -> u32
     ensures { λ r. ⌜ instrOf r w ≡ privateWord (fieldsOf w) ⌝ }
@@ -230,9 +173,9 @@ fn private(w: u32) -> u32
     }
 }
 
-// A word that is no operation on two scalar registers.
-fn other(w: u32) -> u32
-    requires { ⌜ (w % 2 ^ 7 ≡ 0b0110011 → ⊥) ⌝ }
+// The opcodes whose words are one kind or few.
+fn by_opcode(w: u32) -> u32
+    requires { ⌜ oneOf (0b0110011 ∷ 0b0010011 ∷ 0b1100011 ∷ 0b1110011 ∷ 0b1010111 ∷ 0b1011011 ∷ 0b1111011 ∷ []) (w % 2 ^ 7) ≡ false ⌝ }
     ensures { λ r. ⌜ instrOf r w ≡ decodeOf w ⌝ }
 {
     let opcode = w % 128;
@@ -241,22 +184,86 @@ fn other(w: u32) -> u32
         0b0010111 => kinds::AUIPC,
         0b1101111 => kinds::JAL,
         0b1100111 => jalr(w),
-        0b1100011 => branch(w),
         0b0000011 => load(w),
         0b0100011 => store(w),
-        0b0010011 => op_imm(w),
         0b0001111 => fence(w),
-        0b1110011 => csr(w),
-        0b1010111 => vector::vector(w),
-        0b1011011 => splits(w),
         0b0001011 => warp_word(w),
-        0b1111011 => lane_access(w),
         0b0101011 => private(w),
         _ => kinds::NONE,
     }
 }
 
-// The commonest opcode is told by a test of its own, which the processor predicts; the others through the match's table.
+// Vector words, words of splits, lane loads and stores: by opcode and funct3 together, eight rows an opcode.
+fn lane_row(w: u32) -> u32
+    requires { ⌜ oneOf (0b0110011 ∷ 0b0010011 ∷ 0b1100011 ∷ 0b1110011 ∷ []) (w % 2 ^ 7) ≡ false ⌝ }
+    ensures { λ r. ⌜ instrOf r w ≡ decodeOf w ⌝ }
+{
+    let opcode = w % 128;
+    match index(opcode, w) {
+        0b1010111_000 => vector::vector(0b000, w),
+        0b1010111_001 => vector::vector(0b001, w),
+        0b1010111_010 => vector::vector(0b010, w),
+        0b1010111_011 => vector::vector(0b011, w),
+        0b1010111_100 => vector::vector(0b100, w),
+        0b1010111_101 => vector::vector(0b101, w),
+        0b1010111_110 => vector::vector(0b110, w),
+        0b1010111_111 => vector::vector(0b111, w),
+        0b1011011_000 => kinds::VBRANCH,
+        0b1011011_001 => kinds::VBRANCH,
+        0b1011011_010 => join(w),
+        0b1011011_011 => kinds::SETRPC,
+        0b1011011_100 => kinds::VBRANCH,
+        0b1011011_101 => kinds::VBRANCH,
+        0b1011011_110 => kinds::VBRANCH,
+        0b1011011_111 => kinds::VBRANCH,
+        0b1111011_000 => kinds::VLOAD,
+        0b1111011_001 => kinds::VLOAD,
+        0b1111011_010 => kinds::VLOAD,
+        0b1111011_011 => kinds::VSTORE,
+        0b1111011_100 => kinds::VLOAD,
+        0b1111011_101 => kinds::VLOAD,
+        0b1111011_110 => kinds::VSTORE,
+        0b1111011_111 => kinds::VSTORE,
+        _ => by_opcode(w),
+    }
+}
+
+// OP-IMM, branches and CSR words: by opcode and funct3 together, eight rows an opcode.
+fn scalar_row(w: u32) -> u32
+    requires { ⌜ (w % 2 ^ 7 ≡ 0b0110011 → ⊥) ⌝ }
+    ensures { λ r. ⌜ instrOf r w ≡ decodeOf w ⌝ }
+{
+    let opcode = w % 128;
+    match index(opcode, w) {
+        0b0010011_000 => kinds::ADDI,
+        0b0010011_001 => shift(w),
+        0b0010011_010 => kinds::SLTI,
+        0b0010011_011 => kinds::SLTIU,
+        0b0010011_100 => kinds::XORI,
+        0b0010011_101 => shift(w),
+        0b0010011_110 => kinds::ORI,
+        0b0010011_111 => kinds::ANDI,
+        0b1100011_000 => kinds::BRANCH,
+        0b1100011_001 => kinds::BRANCH,
+        0b1100011_010 => kinds::NONE,
+        0b1100011_011 => kinds::NONE,
+        0b1100011_100 => kinds::BRANCH,
+        0b1100011_101 => kinds::BRANCH,
+        0b1100011_110 => kinds::BRANCH,
+        0b1100011_111 => kinds::BRANCH,
+        0b1110011_000 => kinds::NONE,
+        0b1110011_001 => kinds::CSR,
+        0b1110011_010 => kinds::CSR,
+        0b1110011_011 => kinds::CSR,
+        0b1110011_100 => kinds::NONE,
+        0b1110011_101 => kinds::CSR,
+        0b1110011_110 => kinds::CSR,
+        0b1110011_111 => kinds::CSR,
+        _ => lane_row(w),
+    }
+}
+
+// The commonest opcode is told by a test of its own, which the processor predicts, and has a table of its own.
 // In an archive this should have one caller, the step: the compiler then threads its constants straight to the handlers (docs/SPEED.md).
 pub fn kind(w: u32) -> u32
     ensures { λ r. ⌜ instrOf r w ≡ decodeOf w ⌝ }
@@ -265,5 +272,5 @@ pub fn kind(w: u32) -> u32
     if opcode == 0b0110011 {
         return op(w);
     }
-    other(w)
+    scalar_row(w)
 }

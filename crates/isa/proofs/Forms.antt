@@ -2,7 +2,7 @@
 use Prim.Native.Nat.{ℕ, _+_, _<_, _≤_}
 use mathlib.Core.Path.{_≡_, refl, _∙_}
 use mathlib.Core.List.{List, [], _∷_, _++_}
-use mathlib.Core.Bool.{Bool, true, false, cond, not}
+use mathlib.Core.Bool.{Bool, true, false, cond}
 use lib.Dec.{T, eqb}
 use Rattle.answer.specs.Rows.{Row}
 use Rattle.answer.proofs.Matches.{NoneOf, each, in-range}
@@ -29,20 +29,7 @@ module _ (c : Fields) (k : ℕ) where
   formed [] q = refl
   formed (r ∷ rs) q = formed-row (eqb k (r .code)) (has (sourceIn c) (r .is)) _ _ _ _ q (formed rs)
 
-  unformed-row :
-      (b form rest : Bool) (i n : Instr) → T (not (cond b form rest)) → (T (not rest) → Refused ≡ n)
-      → Refused ≡ cond b (cond form i Refused) n
-  unformed-row true true rest i n t e = absurd t
-  unformed-row true false rest i n t e = refl
-  unformed-row false form rest i n t e = e t
-
-  unformed :
-      (t : List (Row OpForms)) → T (not (seek (has (sourceIn c)) false k t))
-      → Refused ≡ wordAt c k (asWords (vectorAs (sourceIn c)) t)
-  unformed [] q = refl
-  unformed (r ∷ rs) q = unformed-row (eqb k (r .code)) (has (sourceIn c) (r .is)) _ _ _ q (unformed rs)
-
-  -- every row of the range has the form of the last operand, or none has it; u are the words before the table's
+  -- every row of the range has the form of the last operand; u are the words before the table's
   module _
       (s : Source) (q : sourceIn c ≡ s) (u : Words) (e : NoneFrom (Unit {0}) k u) (t : List (Row OpForms)) (xs : List ℕ) (lo n : ℕ)
       (a : lo ≤ k) (b : k < lo + n) (h : NoneOf (Unit {0}) k xs) where
@@ -51,9 +38,4 @@ module _ (c : Fields) (k : ℕ) where
         → seek (λ f. laneOpWord (f .op) c) Refused k t ≡ wordAt c k (u ++ asWords (vectorAs s) t)
     form-in p =
         rw (← q) (formed t (rw (← q) at (in-range (λ k. seek (has s) true k t) xs lo n k p a b h)))
-        ∙ past (on c) Refused k u (asWords (vectorAs s) t) e
-
-    pub form-out : T (each (λ k. not (seek (has s) false k t)) xs lo n) → Refused ≡ wordAt c k (u ++ asWords (vectorAs s) t)
-    form-out p =
-        rw (← q) (unformed t (rw (← q) at (in-range (λ k. not (seek (has s) false k t)) xs lo n k p a b h)))
         ∙ past (on c) Refused k u (asWords (vectorAs s) t) e

@@ -11,4 +11,4 @@ kind-spec =
     (λ c κs. search needs)
     (λ c. simp (c .before .if1 .taken) (c .op .ensures))
     (λ c κs. c .if1 .left)
-    (λ c. c .other .ensures))
+    (λ c. c .scalar-row .ensures))

@@ -2,6 +2,7 @@
 #![forbid(unsafe_code)]
 
 mod class;
+mod words;
 
 use linked::kernels::{subjects, Call, Subject, CODE_BASE, DATA_BASE, DATA_BYTES};
 use linked::{number_or, usage_error, Lent, Linked, Machine, Reference};
@@ -11,23 +12,28 @@ use reference::{run, saved, Refusal};
 use std::process::ExitCode;
 use std::time::Instant;
 
-const USAGE: &str = "usage: timing [REPETITIONS], or timing class [REPETITIONS]
+const USAGE: &str =
+    "usage: timing [REPETITIONS], or timing class [REPETITIONS], or timing words [REPETITIONS]
     REPETITIONS  how often each machine runs each kernel, 1 to 65535; 201 if not given
-    class        mark a class's sheets instead";
+    class        mark a class's sheets instead
+    words        decode single words instead";
 
 /// The part of the times that the ratio is taken at: what a run takes when little disturbs it.
 const LOW: usize = 5;
 
 fn main() -> ExitCode {
     let mut arguments = std::env::args().skip(1).peekable();
-    let class = arguments.next_if(|first| first == "class").is_some();
+    let what = arguments.next_if(|first| first == "class" || first == "words");
     let repetitions = number_or::<u16>(arguments.next(), "REPETITIONS", 201);
     match (repetitions, arguments.next()) {
         (Ok(0), _) => usage_error("REPETITIONS is 0", USAGE),
         (Ok(_), Some(_)) => usage_error("too many arguments", USAGE),
         (Err(wrong), _) => usage_error(&wrong, USAGE),
-        (Ok(repetitions), None) if class => class::report(repetitions),
-        (Ok(repetitions), None) => report(repetitions),
+        (Ok(repetitions), None) => match what.as_deref() {
+            Some("class") => class::report(repetitions),
+            Some(_) => words::report(repetitions),
+            None => report(repetitions),
+        },
     }
 }
 

@@ -1,12 +1,11 @@
-use mathlib.Core.Path.{_≡_, _∙_}
+use mathlib.Core.Path.{_∙_}
 use mathlib.Core.List.{[], _∷_}
-use mathlib.Core.Logic.{⊎-elim}
 use native.Mathlib.Omega.{arith}
 use borrow.Author.Needs.{needs}
 use Rattle.isa.specs.Fields.{fieldsOf, funct6}
 use Rattle.isa.specs.Vector.{vectorTable, moves, fromI, plainWord}
 use Rattle.isa.specs.Kinds.{sourceIn, rowOf}
-use Rattle.isa.proofs.Forms.{form-in, form-out}
+use Rattle.isa.proofs.Forms.{form-in}
 use Rattle.decoder.proofs.vector.plain_vi.Statement.{statement}
 use Rattle.decoder.proofs.vector.plain_vi.Tie as tie
 
@@ -18,23 +17,16 @@ plain-vi-spec =
     (λ c κs. search needs) (λ c κs. search needs)
     (λ c. c .fixed .ensures (c .before .before .args .w) ∙ simp (c .before .match .keys1, c .before .before .pre))
     (λ c. simp (c .match .keys2))
+    (λ c. simp (c .match .keys3))
+    (λ c. simp (c .match .keys4))
+    (λ c. simp (c .match .keys5))
+    (λ c. simp (c .match .keys6))
+    (λ c. simp (c .match .keys7))
+    (λ c. simp (c .match .keys8))
     (λ c.
     let p = c .before .before in
-    let f = fieldsOf (p .before .args .w) in
-    form-out f (funct6 f) (fromI f) (simp (p .before .pre)) (moves (fromI f)) (p .match .rest .0)
-    vectorTable [] 4 4 (omega arith) (omega arith) tt tt)
-    (λ c.
-    let p = c .before .before .before .before in
-    let f = fieldsOf (p .before .args .w) in
-    form-out f (funct6 f) (fromI f) (simp (p .before .pre)) (moves (fromI f)) (p .match .rest .0)
-    vectorTable [] 26 2 (omega arith) (omega arith) tt tt)
-    (λ c.
-    let p = c .before .before in
-    let f = fieldsOf (p .before .args .w) in
-    let e = p .match .rest in
-    let q : sourceIn f ≡ fromI f = simp (p .before .pre) in
-    let row = form-in f (funct6 f) (fromI f) q (moves (fromI f)) (e .0) vectorTable in
-    c .row .ensures (p .before .args .w)
-    ∙ ⊎-elim (λ t. row (23 ∷ 2 ∷ []) 0 4 (omega arith) (omega arith) e tt)
-    (⊎-elim (λ t. row (23 ∷ 2 ∷ []) 8 18 (omega arith) (omega arith) e tt)
-    (λ t. row [] 28 36 (omega arith) (omega arith) tt tt)) (c .before .if1 .came)))
+    let f = fieldsOf (p .args .w) in
+    let e = c .before .match .rest in
+    c .row .ensures (p .args .w)
+    ∙ form-in f (funct6 f) (fromI f) (simp (p .pre)) (moves (fromI f)) (e .0 .0 .0 .0 .0 .0 .0)
+    vectorTable (23 ∷ 2 ∷ 4 ∷ 5 ∷ 6 ∷ 7 ∷ 26 ∷ 27 ∷ []) 0 64 (omega arith) (omega arith) e tt))

@@ -1,12 +1,11 @@
-use mathlib.Core.Path.{_≡_, _∙_}
+use mathlib.Core.Path.{_∙_}
 use mathlib.Core.List.{[], _∷_}
-use mathlib.Core.Logic.{⊎-elim}
 use native.Mathlib.Omega.{arith}
 use borrow.Author.Needs.{needs}
 use Rattle.isa.specs.Fields.{fieldsOf, funct6}
 use Rattle.isa.specs.Vector.{vectorTable, moves, fromV, plainWord}
 use Rattle.isa.specs.Kinds.{sourceIn, rowOf}
-use Rattle.isa.proofs.Forms.{form-in, form-out}
+use Rattle.isa.proofs.Forms.{form-in}
 use Rattle.decoder.proofs.vector.plain_vv.Statement.{statement}
 use Rattle.decoder.proofs.vector.plain_vv.Tie as tie
 
@@ -18,17 +17,12 @@ plain-vv-spec =
     (λ c κs. search needs) (λ c κs. search needs)
     (λ c. c .fixed .ensures (c .before .before .args .w) ∙ simp (c .before .match .keys1, c .before .before .pre))
     (λ c. simp (c .match .keys2))
+    (λ c. simp (c .match .keys3))
+    (λ c. simp (c .match .keys4))
     (λ c.
     let p = c .before .before in
-    let f = fieldsOf (p .before .args .w) in
-    form-out f (funct6 f) (fromV f) (simp (p .before .pre)) (moves (fromV f)) (p .match .rest .0)
-    vectorTable [] 30 2 (omega arith) (omega arith) tt tt)
-    (λ c.
-    let p = c .before .before in
-    let f = fieldsOf (p .before .args .w) in
-    let e = p .match .rest in
-    let q : sourceIn f ≡ fromV f = simp (p .before .pre) in
-    let row = form-in f (funct6 f) (fromV f) q (moves (fromV f)) (e .0) vectorTable in
-    c .row .ensures (p .before .args .w)
-    ∙ ⊎-elim (λ t. row (23 ∷ 3 ∷ []) 0 30 (omega arith) (omega arith) e tt)
-    (λ t. row [] 32 32 (omega arith) (omega arith) tt tt) (c .before .if1 .came)))
+    let f = fieldsOf (p .args .w) in
+    let e = c .before .match .rest in
+    c .row .ensures (p .args .w)
+    ∙ form-in f (funct6 f) (fromV f) (simp (p .pre)) (moves (fromV f)) (e .0 .0 .0)
+    vectorTable (23 ∷ 3 ∷ 30 ∷ 31 ∷ []) 0 64 (omega arith) (omega arith) e tt))

@@ -1,4 +1,3 @@
-use borrow.Author.Needs.{needs}
 use borrow.Author.Tests.{ne-eqb}
 use Rattle.isa.specs.Vector.{vectorWord}
 use Rattle.isa.specs.Kinds.{rowOf}
@@ -10,6 +9,6 @@ unfolding rowOf vectorWord
 vector-spec =
     tie.close
     (tie.spec
-    (λ c κs. search needs)
+    (λ c κs. c .before .pre)
     (λ c. simp (c .before .match .keys1) (c .operands .ensures))
     (λ c. simp (ne-eqb _ _ (c .match .rest .1))))
