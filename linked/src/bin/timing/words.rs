@@ -1,6 +1,6 @@
 //! Times the decoding of single words, one call of `decode` a word.
 
-use crate::{measure, Timed};
+use crate::{measure, Timed, LOW};
 use linked::kernels::subjects;
 use linked::{Linked, Machine, Reference};
 use reference::generate::Rng;
@@ -33,7 +33,7 @@ pub fn report(repetitions: u16) -> ExitCode {
             return ExitCode::FAILURE;
         }
     };
-    println!("{repetitions} times each side, taking turns; nanoseconds a word at 5 % of the times, and the median");
+    println!("{repetitions} times each side, taking turns; nanoseconds a word at {LOW} % of the times, and the median");
     println!("| Words        | Number | Library |  median | Reference |  median | Ratio |");
     println!("|--------------|--------|---------|---------|-----------|---------|-------|");
     for set in
@@ -99,6 +99,9 @@ fn stored() -> io::Result<Vec<u32>> {
     for kernel in kernels {
         let bytes = fs::read(kernel)?;
         words.extend(bytes.chunks_exact(4).map(|b| u32::from_le_bytes([b[0], b[1], b[2], b[3]])));
+    }
+    if words.is_empty() {
+        return Err(io::Error::new(io::ErrorKind::NotFound, "no kernel.bin in a folder there"));
     }
     Ok(words)
 }
