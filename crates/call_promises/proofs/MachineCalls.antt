@@ -13,12 +13,12 @@ use Rattle.promises.proofs.Determined.{determined-whole}
 
 all-seen : ShowsAll seen
 all-seen r t e =
-    ap₂ (λ (a : Answer) (m : State). record { result = record { answer = a; warp = m .warp }; vector = m .vector; bytes = m .bytes })
+    ap₂ (λ (a : Answer) (m : State). record { result = record { answer = a; warp = m .warp }; vector = m .vector; bytes = m .bytes .dataBytes })
     (number-one _ _ (ap (λ (o : Outcome). o .code) e)) (ap (λ (o : Outcome). o .left) e)
 
 all-run : ShowsAll runSeen
 all-run r t e =
-    ap₂ (λ (a : Answer) (p : Ran). record { result = record { answer = a; steps = p .steps; warp = p .ends .left .warp }; vector = p .ends .left .vector; bytes = p .ends .left .bytes })
+    ap₂ (λ (a : Answer) (p : Ran). record { result = record { answer = a; steps = p .steps; warp = p .ends .left .warp }; vector = p .ends .left .vector; bytes = p .ends .left .bytes .dataBytes })
     (number-one _ _ (ap (λ (p : Ran). p .ends .code) e)) e
 
 all-freed : ShowsAll freed

@@ -11,6 +11,8 @@ use Rattle.answer.specs.Rows.{_⇒_, first, oneOf}
 use Rattle.answer.proofs.Rows.{passed, numbered-first}
 use Rattle.isa.specs.declared.Instr.the-variants.{Refused}
 use Rattle.isa.specs.Decode.{decodeOf}
+use Rattle.memory.specs.Memories.{alone, bytesAt}
+use Rattle.memory.proofs.Laws.{Same, alone-still}
 use Rattle.warp.specs.declared.Launch.{Launch}
 use Rattle.warp.specs.declared.Warp.{Warp}
 use Rattle.warp.specs.Warp.{Answered, answered}
@@ -23,15 +25,16 @@ use Rattle.definition.specs.State.{State, state, Outcome, outcome}
 use Rattle.definition.specs.Refuse.{runsOkOf, stepNumbers}
 use Rattle.definition.specs.Step.{stepOf}
 use Rattle.definition.specs.Calls.{launchOf, Ran, runOf, releaseOf}
+use Rattle.definition.proofs.Used.{step-within}
 use Rattle.card.specs.Card.{cardSize, headOkAt, launchAt, readCardOf}
 use Rattle.saved.specs.Saved.{saving, restoreTests}
 use Rattle.capi.specs.Calls.{Called, called, leaving, unlessCalled, blankOf, launchCallOf, wordsTests, stepCallOf, runCalled, countIn, runCallOf, releaseCallOf}
 use Rattle.capi.proofs.Laws.{run-room}
 use Rattle.capi_words.specs.Words.{variant, decodeCallOf}
 use Rattle.promises.specs.Reached.{Reached, launched, goes, steps, releases, Sound}
-use Rattle.promises.specs.Runs.{tested, Steps, start}
+use Rattle.promises.specs.Runs.{tested, Steps, start, more}
 use Rattle.promises.proofs.Determined.{determined-whole}
-use Rattle.promises.proofs.Refusals.{is-zero, step-answers, run-answers, step-keeps, release-refusals}
+use Rattle.promises.proofs.Refusals.{is-zero, step-answers, run-answers, step-keeps, launch-refusals, release-refusals}
 use Rattle.promises.proofs.Reached.{reached-sound, never-malformed}
 use Rattle.promises.proofs.Runs.{run-iterates, run-tests, steps-fixed, run-reaches}
 use Rattle.call_promises.specs.StateCalls.{whole, LaunchCallAnswers, StepCallAnswers, RunCallAnswers, ReleaseCallAnswers, DecodeCallAnswers, LaunchCallKeeps, StepCallKeeps, RunCallKeeps, RunCallRoom, ReleaseCallKeeps, LaunchCallDetermined, StepCallDetermined, RunCallDetermined, ReleaseCallDetermined, DecodeCallDetermined, Holds, CallLeaves, LaunchCallReaches, StepCallReaches, RunCallReaches, ReleaseCallReaches}
@@ -44,19 +47,22 @@ unless-at P n o s v d p q = by-cond (λ (r : Called). P (r .number)) (eqb n 0) (
 
 pub step-call-answers : StepCallAnswers
 unfolding stepCallOf
-step-call-answers s k v d = unless-at (λ (n : ℕ). oneOf (0 ∷ stepNumbers) n ≡ true) (first (wordsTests s k v d)) _ s v d (numbered-first (oneOf (0 ∷ stepNumbers)) (wordsTests s k v d) refl refl) (step-answers k _)
+step-call-answers s k v d =
+    let m : State = state (warpIn s) v (alone d) in
+    unless-at (λ (n : ℕ). oneOf (0 ∷ stepNumbers) n ≡ true) (first (wordsTests s k v d)) (stepOf k m) s v d (numbered-first (oneOf (0 ∷ stepNumbers)) (wordsTests s k v d) refl refl) (step-answers k m)
 
 pub run-call-answers : RunCallAnswers
 unfolding runCallOf
 run-call-answers s k n v d t =
+    let m : State = state (warpIn s) v (alone d) in
     let rows = 1 ⇒ not (eqb (length t) 1) ∷ wordsTests s k v d in
-    unless-at (λ (c : ℕ). oneOf (0 ∷ stepNumbers) c ≡ true) (first rows) _ s v d (numbered-first (oneOf (0 ∷ stepNumbers)) rows refl refl) (run-answers k n _)
+    unless-at (λ (c : ℕ). oneOf (0 ∷ stepNumbers) c ≡ true) (first rows) (runOf k n m .ends) s v d (numbered-first (oneOf (0 ∷ stepNumbers)) rows refl refl) (run-answers k n m)
 
 pub launch-call-answers : LaunchCallAnswers
 unfolding launchCallOf readCardOf launchOf
 launch-call-answers c k v d s =
     let l : Launch = readCardOf c .launch in
-    go (eqb (length c) cardSize) (headOkAt c) (launchOkOf (launchAt c)) (eqb (length s) stateWords) (runsOkOf (l .fixed) k v d) (launchOkOf l) (launchOf k l v d .left) (blankOf s) v d
+    go (eqb (length c) cardSize) (headOkAt c) (launchOkOf (launchAt c)) (eqb (length s) stateWords) (runsOkOf (l .fixed) k v (alone d)) (launchOkOf l) (launchOf k l v (alone d) .left) (blankOf s) v d
   where
     go : (a b e x f g : Bool) (m : State) (s v d : List ℕ)
         → (let n : ℕ = first (13 ⇒ not a ∷ 13 ⇒ not b ∷ 1 ⇒ not e ∷ []) in
@@ -98,7 +104,7 @@ back s l o = warp-words s (eqb-true _ _ l) o
 tested-back : (s k v d : List ℕ) → first (wordsTests s k v d) ≡ 0 → wordsOf (warpIn s) ≡ s
 tested-back s k v d z =
     let a = eqb (length s) stateWords in
-    let b = runsOkOf (warpIn s .fixed) k v d in
+    let b = runsOkOf (warpIn s .fixed) k v (alone d) in
     back s (passed [] (1 ⇒ not b ∷ 2 ⇒ not (soundIn s) ∷ []) 1 a refl z) (passed (1 ⇒ not a ∷ 1 ⇒ not b ∷ []) [] 2 (soundIn s) refl z)
 
 -- what the definition refuses leaves the words as they were; so a refused call does
@@ -107,14 +113,14 @@ refusal : (n : ℕ) (o : Outcome) (s v d : List ℕ) → (n ≡ 0 → (o .code �
 refusal n o s v d h = is-zero n (λ z. rw z (h z)) (λ z. rw (ne-eqb n 0 z) (λ y. refl))
 
 -- the state as it was handed in
-as-lent : (s k v d : List ℕ) (o : Outcome) → first (wordsTests s k v d) ≡ 0 → o .left ≡ state (warpIn s) v d → leaving o ≡ called (o .code) s v d
+as-lent : (s k v d : List ℕ) (o : Outcome) → first (wordsTests s k v d) ≡ 0 → o .left ≡ state (warpIn s) v (alone d) → leaving o ≡ called (o .code) s v d
 as-lent s k v d o z h =
     ap (λ (m : State). leaving (outcome (o .code) m)) h ∙ ap (λ (u : List ℕ). called (o .code) u v d) (tested-back s k v d z)
 
 pub step-call-keeps : StepCallKeeps
 unfolding stepCallOf
 step-call-keeps s k v d =
-    let m : State = state (warpIn s) v d in
+    let m : State = state (warpIn s) v (alone d) in
     refusal (first (wordsTests s k v d)) (stepOf k m) s v d (λ z y. as-lent s k v d (stepOf k m) z (ap (λ (o : Outcome). o .left) (step-keeps k m y)))
 
 -- a run of no steps leaves its state
@@ -130,7 +136,7 @@ counted c q t z l e = let f : q ∷ [] ≡ 0 ∷ [] = rw (z, l) at e in ap (λ (
 pub run-call-keeps : RunCallKeeps
 unfolding runCallOf
 run-call-keeps s k n v d t y e =
-    let m : State = state (warpIn s) v d in
+    let m : State = state (warpIn s) v (alone d) in
     let one = eqb (length t) 1 in
     let rows = 1 ⇒ not one ∷ wordsTests s k v d in
     refusal (first rows) (runOf k n m .ends) s v d
@@ -153,7 +159,7 @@ last-zero n i x = is-zero n (λ z. rw z (go x)) (λ z. rw (ne-eqb n 0 z) (λ y. 
 pub launch-call-keeps : LaunchCallKeeps
 unfolding launchCallOf
 launch-call-keeps c k v d s =
-    let o : Outcome = launchOf k (readCardOf c .launch) v d in
+    let o : Outcome = launchOf k (readCardOf c .launch) v (alone d) in
     refusal _ o (blankOf s) v d (λ z y. absurd (y (last-zero (readCardOf c .number) (o .code) (eqb (length s) stateWords) z)))
 
 -- a release that its own tests refuse with n, or that the definition answers with c and the words u
@@ -193,6 +199,21 @@ decode-call-determined = determined-whole whole decodeCallOf (λ r t e. e)
 accepted : (n : ℕ) (o : Outcome) (s v d : List ℕ) → unlessCalled n o s v d .number ≡ 0 → unlessCalled n o s v d ≡ leaving o
 accepted n o s v d = is-zero n (λ z. rw z (λ y. refl)) (λ z. rw (ne-eqb n 0 z) (λ y. absurd (z y)))
 
+-- the data memory's bytes tell a single warp's memories
+holds : (k : List ℕ) (l : Launch) (d : List ℕ) (o : Outcome) → Same (o .left .bytes) (alone d) → Reached k l (o .left) → CallLeaves k l (leaving o)
+holds k l d o e r = record { warp = o .left .warp; words = refl; reached = rw (alone-still (o .left .bytes) d e) r }
+
+-- steps and runs keep the memories' sizes
+steps-same : (k : List ℕ) (t : ℕ) (m u : State) → Steps k t m u → Same (u .bytes) (m .bytes)
+steps-same k t m u start = λ r. refl
+steps-same k t m u (more {t = n} {u = x} p q) = λ r. ap (λ (o : Outcome). length (bytesAt r (o .left .bytes))) (sym q) ∙ step-within k x .size r ∙ steps-same k n m x p r
+
+run-same : (k : List ℕ) (n : ℕ) (m : State) → Same (runOf k n m .ends .left .bytes) (m .bytes)
+run-same k n m =
+    is-zero (tested k m)
+    (λ z. steps-same k (runOf k n m .steps) m _ (run-iterates k n m z .taken))
+    (λ z r. ap (λ (a : Ran). length (bytesAt r (a .ends .left .bytes))) (run-tests k n m z))
+
 -- an outcome answered 0
 done : (o : Outcome) → o .code ≡ 0 → o ≡ outcome 0 (o .left)
 done o z = ap (λ (c : ℕ). outcome c (o .left)) z
@@ -200,18 +221,20 @@ done o z = ap (λ (c : ℕ). outcome c (o .left)) z
 pub launch-call-reaches : LaunchCallReaches
 unfolding launchCallOf
 launch-call-reaches c k v d s z =
-    let o : Outcome = launchOf k (readCardOf c .launch) v d in
+    let o : Outcome = launchOf k (readCardOf c .launch) v (alone d) in
     let n : ℕ = readCardOf c .number in
     let e = accepted (first (n ⇒ not (eqb n 0) ∷ 1 ⇒ not (eqb (length s) stateWords) ∷ o .code ⇒ not (eqb (o .code) 0) ∷ [])) o (blankOf s) v d z in
+    let y : o .code ≡ 0 = sym (ap (λ (r : Called). r .number) e) ∙ z in
+    let g = launch-refusals k (readCardOf c .launch) v (alone d) .gives y in
     subst (CallLeaves k (readCardOf c .launch)) (sym e)
-    (record { warp = o .left .warp; words = refl; reached = launched v d (done o (sym (ap (λ (r : Called). r .number) e) ∙ z)) })
+    (holds k (readCardOf c .launch) d o (λ r. ap (λ (o : Outcome). length (bytesAt r (o .left .bytes))) g) (launched v (alone d) (done o y)))
 
 module _ (k : List ℕ) (l : Launch) (s v d : List ℕ) (h : Holds k l s v d) where
   abbrev w : Warp
   w = h .warp
 
   abbrev m : State
-  m = state w v d
+  m = state w v (alone d)
 
   sound : Sound k l m
   sound = reached-sound k l m (h .reached)
@@ -225,12 +248,8 @@ module _ (k : List ℕ) (l : Launch) (s v d : List ℕ) (h : Holds k l s v d) wh
   sure : soundIn s ≡ true
   sure = ap soundIn (h .words) ∙ words-sound w (sound .registers) (sound .splits) (formed w (sound .splits) (sound .formed) .deep)
 
-  fits : runsOkOf (warpIn s .fixed) k v d ≡ true
-  fits = ap (λ (u : Warp). runsOkOf (u .fixed) k v d) stands ∙ sound .runs
-
-  -- what is left of a reached state is reached
-  left : (o : Outcome) → Reached k l (o .left) → CallLeaves k l (leaving o)
-  left o r = record { warp = o .left .warp; words = refl; reached = r }
+  fits : runsOkOf (warpIn s .fixed) k v (alone d) ≡ true
+  fits = ap (λ (u : Warp). runsOkOf (u .fixed) k v (alone d)) stands ∙ sound .runs
 
   step-is : stepCallOf s k v d ≡ leaving (stepOf k m)
   unfolding stepCallOf
@@ -249,22 +268,22 @@ module _ (k : List ℕ) (l : Launch) (s v d : List ℕ) (h : Holds k l s v d) wh
   unfolding releaseCallOf
   release-is = rw (long, sure, stands)
 
-  release-reached : Reached k l (state (releaseOf w .warp) v d)
+  release-reached : Reached k l (state (releaseOf w .warp) v (alone d))
   release-reached =
       is-zero (releaseOf w .code) (λ z. goes (h .reached) (releases (ap (λ (c : ℕ). answered c (releaseOf w .warp)) z)))
-      (λ z. subst (λ (u : Warp). Reached k l (state u v d)) (sym (ap (λ (a : Answered). a .warp) (release-refusals w .keeps z))) (h .reached))
+      (λ z. subst (λ (u : Warp). Reached k l (state u v (alone d))) (sym (ap (λ (a : Answered). a .warp) (release-refusals w .keeps z))) (h .reached))
 
 pub step-call-reaches : StepCallReaches
 step-call-reaches k l s v d h =
     let q = never-malformed k l (m k l s v d h) (h .reached) in
     rw (step-is k l s v d h)
-    (record { is = refl; leaves = left k l s v d h (stepOf k (m k l s v d h)) (step-reached k l s v d h); not1 = q .step1; not2 = q .step2 })
+    (record { is = refl; leaves = holds k l d (stepOf k (m k l s v d h)) (step-within k (m k l s v d h) .size) (step-reached k l s v d h); not1 = q .step1; not2 = q .step2 })
 
 pub run-call-reaches : RunCallReaches
 run-call-reaches k l n s v d t h o =
     let r = run-reaches k l n (m k l s v d h) (h .reached) in
     rw (run-is k l s v d h n t o)
-    (record { is = refl; leaves = left k l s v d h (runOf k n (m k l s v d h) .ends) (r .reached); not1 = r .passes .not1; not2 = r .passes .not2 })
+    (record { is = refl; leaves = holds k l d (runOf k n (m k l s v d h) .ends) (run-same k n (m k l s v d h)) (r .reached); not1 = r .passes .not1; not2 = r .passes .not2 })
 
 -- a release answers no 1
 freed-not1 : (a b : Bool) → first (2 ⇒ not a ∷ 12 ⇒ not b ∷ []) ≡ 1 → ⊥

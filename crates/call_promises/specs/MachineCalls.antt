@@ -2,6 +2,7 @@
 use Prim.Native.Nat.{ℕ}
 use mathlib.Core.List.{List}
 use Rattle.answer.specs.Answer.{numberOf}
+use Rattle.memory.specs.Memories.{alone}
 use Rattle.warp.specs.declared.Launch.{Launch}
 use Rattle.warp.specs.Warp.{Answered, answered}
 use Rattle.definition.specs.State.{state, Outcome, outcome}
@@ -24,10 +25,10 @@ pub record RunLeaves : Type 0 where
 
 -- what the contracts see of them
 abbrev pub seen : Leaves → Outcome
-seen r = outcome (numberOf (r .result .answer)) (state (r .result .warp) (r .vector) (r .bytes))
+seen r = outcome (numberOf (r .result .answer)) (state (r .result .warp) (r .vector) (alone (r .bytes)))
 
 abbrev pub runSeen : RunLeaves → Ran
-runSeen r = ran (r .result .steps) (outcome (numberOf (r .result .answer)) (state (r .result .warp) (r .vector) (r .bytes)))
+runSeen r = ran (r .result .steps) (outcome (numberOf (r .result .answer)) (state (r .result .warp) (r .vector) (alone (r .bytes))))
 
 abbrev pub freed : Left → Answered
 freed r = answered (numberOf (r .answer)) (r .warp)
@@ -35,7 +36,7 @@ freed r = answered (numberOf (r .answer)) (r .warp)
 -- ---- promises
 
 abbrev pub LaunchDetermined : Type 0
-LaunchDetermined = (k v d : List ℕ) → DeterminedWhole seen (λ (l : Launch). launchOf k l v d)
+LaunchDetermined = (k v d : List ℕ) → DeterminedWhole seen (λ (l : Launch). launchOf k l v (alone d))
 
 abbrev pub StepDetermined : Type 0
 StepDetermined = (k : List ℕ) → DeterminedWhole seen (stepOf k)

@@ -5,6 +5,7 @@ use mathlib.Core.Bool.{true}
 use mathlib.Core.List.{List, [], _∷_}
 use lib.ListN.{length}
 use Rattle.answer.specs.Rows.{oneOf}
+use Rattle.memory.specs.Memories.{alone}
 use Rattle.warp.specs.declared.Launch.{Launch}
 use Rattle.warp.specs.declared.Warp.{Warp}
 use Rattle.layout.specs.Words.{wordsOf}
@@ -87,7 +88,7 @@ DecodeCallDetermined = DeterminedWhole whole decodeCallOf
 pub record Holds (k : List ℕ) (l : Launch) (s v d : List ℕ) : Type 0 where
   pub warp : Warp
   pub words : s ≡ wordsOf warp
-  pub reached : Reached k l (state warp v d)
+  pub reached : Reached k l (state warp v (alone d))
 
 -- what a call leaves holds a reached state
 abbrev pub CallLeaves : List ℕ → Launch → Called → Type 0
@@ -105,7 +106,7 @@ pub record StepOn (k : List ℕ) (l : Launch) (m : State) (r : Called) : Type 0 
   pub not2 : r .number ≡ 2 → ⊥
 
 abbrev pub StepCallReaches : Type 0
-StepCallReaches = (k : List ℕ) (l : Launch) (s v d : List ℕ) (h : Holds k l s v d) → StepOn k l (state (h .warp) v d) (stepCallOf s k v d)
+StepCallReaches = (k : List ℕ) (l : Launch) (s v d : List ℕ) (h : Holds k l s v d) → StepOn k l (state (h .warp) v (alone d)) (stepCallOf s k v d)
 
 -- So is a run, its count the definition's, where the count has its word.
 pub record RunOn (k : List ℕ) (l : Launch) (n : ℕ) (m : State) (r : RunCalled) : Type 0 where
@@ -116,14 +117,14 @@ pub record RunOn (k : List ℕ) (l : Launch) (n : ℕ) (m : State) (r : RunCalle
 
 abbrev pub RunCallReaches : Type 0
 RunCallReaches =
-    (k : List ℕ) (l : Launch) (n : ℕ) (s v d t : List ℕ) (h : Holds k l s v d) → length t ≡ 1 → RunOn k l n (state (h .warp) v d) (runCallOf s k n v d t)
+    (k : List ℕ) (l : Launch) (n : ℕ) (s v d t : List ℕ) (h : Holds k l s v d) → length t ≡ 1 → RunOn k l n (state (h .warp) v (alone d)) (runCallOf s k n v d t)
 
 -- So is a release: it answers 0 or 12.
 pub record ReleaseOn (k : List ℕ) (l : Launch) (m : State) (r : Saving) : Type 0 where
   pub is : r ≡ saving (releaseOf (m .warp) .code) (wordsOf (releaseOf (m .warp) .warp))
-  pub leaves : Holds k l (r .state) (m .vector) (m .bytes)
+  pub leaves : Holds k l (r .state) (m .vector) (m .bytes .dataBytes)
   pub not1 : r .number ≡ 1 → ⊥
   pub not2 : r .number ≡ 2 → ⊥
 
 abbrev pub ReleaseCallReaches : Type 0
-ReleaseCallReaches = (k : List ℕ) (l : Launch) (s v d : List ℕ) (h : Holds k l s v d) → ReleaseOn k l (state (h .warp) v d) (releaseCallOf s)
+ReleaseCallReaches = (k : List ℕ) (l : Launch) (s v d : List ℕ) (h : Holds k l s v d) → ReleaseOn k l (state (h .warp) v (alone d)) (releaseCallOf s)

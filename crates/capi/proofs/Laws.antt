@@ -10,6 +10,7 @@ use borrow.Author.Tests.{eq-eqb, ne-eqb, eqb-true, eqb-false}
 use Rattle.answer.specs.Rows.{_⇒_, first}
 use Rattle.answer.specs.Answer.{numberOf}
 use Rattle.answer.proofs.Rows.{passed}
+use Rattle.memory.specs.Memories.{Contents, alone}
 use Rattle.warp.specs.declared.Launch.{Launch}
 use Rattle.warp.specs.declared.Warp.{Warp}
 use Rattle.warp.specs.Warp.{splitCount, zeroWarp, Answered, answered, withStop}
@@ -46,7 +47,7 @@ blanked n w s s' ew es = ap (λ (t : Saving). t .state) es ∙ ap (λ (w : Warp)
 
 -- a state's words as they are lent
 abbrev partsOf : List ℕ → List ℕ → List ℕ → Lists
-partsOf s v d = lists (fixedPart s) (movingPart s) (scalarPart s) (splitPart s) v d
+partsOf s v d = lists (fixedPart s) (movingPart s) (scalarPart s) (splitPart s) v (alone d)
 
 -- and put back
 abbrev putBack : Lists → List ℕ
@@ -54,37 +55,37 @@ putBack b = b .scalars ++ b .splits ++ b .moving ++ b .fixed
 
 module _ (s k : List ℕ) (n : ℕ) (v d : List ℕ) (l : length s ≡ stateWords) where
   abbrev m : State
-  m = state (warpIn s) v d
+  m = state (warpIn s) v (alone d)
 
   -- what a run leaves, of words that are a warp's
   abbrev left : Ran → RunCalled
   left r = runCalled (leaving (r .ends)) (r .steps ∷ [])
 
-  sound-run : soundIn s ≡ true → (r : Bool) → runsOkOf (warpIn s .fixed) k v d ≡ r → left (runOf k n m) ≡ runCallOf s k n v d (0 ∷ [])
+  sound-run : soundIn s ≡ true → (r : Bool) → runsOkOf (warpIn s .fixed) k v (alone d) ≡ r → left (runOf k n m) ≡ runCallOf s k n v d (0 ∷ [])
   unfolding runCallOf
   sound-run o true r = rw (l, r, o)
   sound-run o false r = rw (l, r, run-size k n m r, warp-words s l o)
 
-  other-run : soundIn s ≡ false → (r : Bool) → runsOkOf (warpIn s .fixed) k v d ≡ r → runCalled (called (cond r 2 1) s v d) (0 ∷ []) ≡ runCallOf s k n v d (0 ∷ [])
+  other-run : soundIn s ≡ false → (r : Bool) → runsOkOf (warpIn s .fixed) k v (alone d) ≡ r → runCalled (called (cond r 2 1) s v d) (0 ∷ []) ≡ runCallOf s k n v d (0 ∷ [])
   unfolding runCallOf
   other-run o true r = rw (l, r, o)
   other-run o false r = rw (l, r)
 
   module _ (c t : ℕ) (b : Lists) (q : RunsWords k n c t (partsOf s v d) b) where
     abbrev is : RunCalled
-    is = runCalled (called c (putBack b) (b .vector) (b .bytes)) (t ∷ [])
+    is = runCalled (called c (putBack b) (b .vector) (b .bytes .dataBytes)) (t ∷ [])
 
     -- a warp's words are those of the warp that they stand for
     as-warp : b .fixed ≡ fixedPart s → soundIn s ≡ true → is ≡ left (ran t (outcome c (lentState b)))
     as-warp eg o =
-        ap (λ (u : List ℕ). runCalled (called c u (b .vector) (b .bytes)) (t ∷ []))
+        ap (λ (u : List ℕ). runCalled (called c u (b .vector) (b .bytes .dataBytes)) (t ∷ []))
         (sym (together-words (b .fixed) (b .moving) (b .scalars) (b .splits) (ap length eg ∙ fixed-long s l) (q .long) (q .room) (q .sound o)))
 
-    other : soundIn s ≡ false → is ≡ runCalled (called (cond (runsOkOf (warpIn s .fixed) k v d) 2 1) s v d) (0 ∷ [])
+    other : soundIn s ≡ false → is ≡ runCalled (called (cond (runsOkOf (warpIn s .fixed) k v (alone d)) 2 1) s v d) (0 ∷ [])
     unfolding runWordsOf warpOf
     other o =
-        let e : ran t (outcome c (lentState b)) ≡ ran 0 (outcome (cond (runsOkOf (warpIn s .fixed) k v d) 2 1) m) = q .runs ∙ rw o in
-        ap (λ (b : Lists). runCalled (called c (putBack b) (b .vector) (b .bytes)) (t ∷ [])) (q .kept o)
+        let e : ran t (outcome c (lentState b)) ≡ ran 0 (outcome (cond (runsOkOf (warpIn s .fixed) k v (alone d)) 2 1) m) = q .runs ∙ rw o in
+        ap (λ (b : Lists). runCalled (called c (putBack b) (b .vector) (b .bytes .dataBytes)) (t ∷ [])) (q .kept o)
         ∙ ap (λ (u : List ℕ). runCalled (called c u v d) (t ∷ [])) (parts-whole s l)
         ∙ ap (λ (r : Ran). runCalled (called (r .ends .code) s v d) (r .steps ∷ [])) e
 
@@ -92,15 +93,15 @@ module _ (s k : List ℕ) (n : ℕ) (v d : List ℕ) (l : length s ≡ stateWord
     ran-is eg = by (soundIn s) refl
       where
         by : (o : Bool) → soundIn s ≡ o → is ≡ runCallOf s k n v d (0 ∷ [])
-        by true o = as-warp eg o ∙ ap left (q .runs ∙ run-sound k n (partsOf s v d) o) ∙ sound-run o (runsOkOf (warpIn s .fixed) k v d) refl
-        by false o = other o ∙ other-run o (runsOkOf (warpIn s .fixed) k v d) refl
+        by true o = as-warp eg o ∙ ap left (q .runs ∙ run-sound k n (partsOf s v d) o) ∙ sound-run o (runsOkOf (warpIn s .fixed) k v (alone d)) refl
+        by false o = other o ∙ other-run o (runsOkOf (warpIn s .fixed) k v (alone d)) refl
 
   -- the words are copied from the state, and put back into it
   pub state-run : (g h x q : List ℕ) → g ≡ fixedPart s → h ≡ movingPart s → x ≡ scalarPart s → q ≡ splitPart s
-      → (c t : ℕ) (h' x' q' v' d' : List ℕ) → RunsWords k n c t (lists g h x q v d) (lists g h' x' q' v' d')
-      → (s' : List ℕ) → s' ≡ x' ++ q' ++ h' ++ g → runCalled (called c s' v' d') (t ∷ []) ≡ runCallOf s k n v d (0 ∷ [])
-  state-run g h x q eg eh ex eq c t h' x' q' v' d' r s' es =
-      rw (es, eg) (ran-is c t (lists (fixedPart s) h' x' q' v' d') (rw (eg, eh, ex, eq) at r) refl)
+      → (c t : ℕ) (h' x' q' v' : List ℕ) (e : Contents) → RunsWords k n c t (lists g h x q v (alone d)) (lists g h' x' q' v' e)
+      → (s' : List ℕ) → s' ≡ x' ++ q' ++ h' ++ g → runCalled (called c s' v' (e .dataBytes)) (t ∷ []) ≡ runCallOf s k n v d (0 ∷ [])
+  state-run g h x q eg eh ex eq c t h' x' q' v' e r s' es =
+      rw (es, eg) (ran-is c t (lists (fixedPart s) h' x' q' v' e) (rw (eg, eh, ex, eq) at r) refl)
 
 -- ---- step
 
@@ -113,7 +114,7 @@ module _ (s k v d : List ℕ) where
   pub step-call : (c t : ℕ) (s' v' d' : List ℕ) → runCalled (called c s' v' d') (t ∷ []) ≡ runCallOf s k 1 v d (0 ∷ []) → called c s' v' d' ≡ stepCallOf s k v d
   unfolding stepCallOf runCallOf
   step-call c t s' v' d' e =
-      ap (λ (r : RunCalled). r .call) e ∙ ap (λ (o : Outcome). unlessCalled (first (wordsTests s k v d)) o s v d) (run-one k (state (warpIn s) v d))
+      ap (λ (r : RunCalled). r .call) e ∙ ap (λ (o : Outcome). unlessCalled (first (wordsTests s k v d)) o s v d) (run-one k (state (warpIn s) v (alone d)))
 
 -- ---- run
 
@@ -194,13 +195,13 @@ module _ (c k v d s : List ℕ) (n : ℕ) (a : Launch) (er : reading n a ≡ rea
     launch-short h = rw (← er, z, ne-eqb _ _ h)
 
     module _ (l : length s ≡ stateWords) where
-      launch-cases : (b : Bool) → eqb (first (launchTests k a v d)) 0 ≡ b
-          → called (launchOf k a v d .code) (saveOf (launchOf k a v d .left .warp) s .state) (launchOf k a v d .left .vector) d ≡ launchCallOf c k v d s
+      launch-cases : (b : Bool) → eqb (first (launchTests k a v (alone d))) 0 ≡ b
+          → called (launchOf k a v (alone d) .code) (saveOf (launchOf k a v (alone d) .left .warp) s .state) (launchOf k a v (alone d) .left .vector) d ≡ launchCallOf c k v d s
       unfolding launchCallOf launchOf
       launch-cases true e = rw (← er, z, l, e, ← save-done (launchedOf a) s l (omega arith))
-      launch-cases false e = rw (← er, z, l, e, e) (ap (λ (t : List ℕ). called (first (launchTests k a v d)) t v d) (save-blank s ∙ rw l))
+      launch-cases false e = rw (← er, z, l, e, e) (ap (λ (t : List ℕ). called (first (launchTests k a v (alone d))) t v d) (save-blank s ∙ rw l))
 
-      pub launch-call : (r m : ℕ) (u : Warp) (s' v' : List ℕ) → outcome r (state u v' d) ≡ launchOf k a v d → saving m s' ≡ saveOf u s → called r s' v' d ≡ launchCallOf c k v d s
+      pub launch-call : (r m : ℕ) (u : Warp) (s' v' : List ℕ) → outcome r (state u v' (alone d)) ≡ launchOf k a v (alone d) → saving m s' ≡ saveOf u s → called r s' v' d ≡ launchCallOf c k v d s
       launch-call r m u s' v' eo es =
           ap (λ (t : Saving). called r (t .state) v' d) es ∙ ap (λ (o : Outcome). called (o .code) (saveOf (o .left .warp) s .state) (o .left .vector) d) eo
-          ∙ launch-cases (eqb (first (launchTests k a v d)) 0) refl
+          ∙ launch-cases (eqb (first (launchTests k a v (alone d))) 0) refl

@@ -5,6 +5,7 @@ use mathlib.Core.List.{List, [], _∷_}
 use lib.Dec.{eqb}
 use lib.ListN.{length, replicate}
 use Rattle.answer.specs.Rows.{Row, _⇒_, first}
+use Rattle.memory.specs.Memories.{alone}
 use Rattle.warp.specs.Warp.{Answered}
 use Rattle.layout.specs.Words.{stateWords, isState, wordsOf, warpIn, soundIn}
 use Rattle.definition.specs.State.{state, Outcome}
@@ -26,7 +27,7 @@ called n s v d = record { number = n; state = s; vector = v; bytes = d }
 
 -- what the definition leaves
 abbrev pub leaving : Outcome → Called
-leaving o = called (o .code) (wordsOf (o .left .warp)) (o .left .vector) (o .left .bytes)
+leaving o = called (o .code) (wordsOf (o .left .warp)) (o .left .vector) (o .left .bytes .dataBytes)
 
 -- the refusal n, which leaves all as it was handed in; or, where n is 0, what the definition leaves
 abbrev pub unlessCalled : ℕ → Outcome → List ℕ → List ℕ → List ℕ → Called
@@ -41,7 +42,7 @@ blankOf s = cond (isState s) (replicate stateWords 0) s
 unfoldable pub launchCallOf : List ℕ → List ℕ → List ℕ → List ℕ → List ℕ → Called
 launchCallOf c k v d s =
     let r : Reading = readCardOf c in
-    let o : Outcome = launchOf k (r .launch) v d in
+    let o : Outcome = launchOf k (r .launch) v (alone d) in
     let n : ℕ = first (r .number ⇒ not (eqb (r .number) 0) ∷ 1 ⇒ not (isState s) ∷ o .code ⇒ not (eqb (o .code) 0) ∷ []) in
     unlessCalled n o (blankOf s) v d
 
@@ -49,10 +50,10 @@ launchCallOf c k v d s =
 
 -- refusals 1 and 2 of the state as words; the definition's own tests of the warp come after them
 abbrev pub wordsTests : List ℕ → List ℕ → List ℕ → List ℕ → List (Row Bool)
-wordsTests s k v d = 1 ⇒ not (isState s) ∷ 1 ⇒ not (runsOkOf (warpIn s .fixed) k v d) ∷ 2 ⇒ not (soundIn s) ∷ []
+wordsTests s k v d = 1 ⇒ not (isState s) ∷ 1 ⇒ not (runsOkOf (warpIn s .fixed) k v (alone d)) ∷ 2 ⇒ not (soundIn s) ∷ []
 
 unfoldable pub stepCallOf : List ℕ → List ℕ → List ℕ → List ℕ → Called
-stepCallOf s k v d = unlessCalled (first (wordsTests s k v d)) (stepOf k (state (warpIn s) v d)) s v d
+stepCallOf s k v d = unlessCalled (first (wordsTests s k v d)) (stepOf k (state (warpIn s) v (alone d))) s v d
 
 -- what a run leaves: also the run of one word for the count
 pub record RunCalled : Type 0 where
@@ -70,7 +71,7 @@ countIn n t = cond (eqb (length t) 1) (n ∷ []) t
 unfoldable pub runCallOf : List ℕ → List ℕ → ℕ → List ℕ → List ℕ → List ℕ → RunCalled
 runCallOf s k budget v d t =
     let n : ℕ = first (1 ⇒ not (eqb (length t) 1) ∷ wordsTests s k v d) in
-    let r : Ran = runOf k budget (state (warpIn s) v d) in
+    let r : Ran = runOf k budget (state (warpIn s) v (alone d)) in
     runCalled (unlessCalled n (r .ends) s v d) (countIn (cond (eqb n 0) (r .steps) 0) t)
 
 -- ---- release, which lends no run but the state: refused as restoring it is

@@ -61,12 +61,23 @@ fn run_state(
     requires { ⌜ length (now state) ≡ stateWords ⌝ }
     ensures { λ r. ⌜ runCalled (called (r .code) (now (state .exit)) (now (vector .exit)) (now (bytes .exit))) (r .steps ∷ []) ≡ runCallOf (now (state .entry)) (now (kernel .entry)) budget (now (vector .entry)) (now (bytes .entry)) (0 ∷ []) ⌝ }
 {
+    let mut none = [0u8; 0];
     let mut x = [0u32; SCALARS];
     let mut s = [0u32; FLAT];
     let mut h = [0u32; MOVING];
     let mut g = [0u32; FIXED];
     layout::get(state, &mut h, &mut g, &mut x, &mut s);
-    let end = drive::run_words(&mut h, &g, &mut x, &mut s, kernel, vector, bytes, budget);
+    let end = drive::run_words(
+        &mut h,
+        &g,
+        &mut x,
+        &mut s,
+        kernel,
+        vector,
+        bytes,
+        &mut none,
+        budget,
+    );
     layout::put(&h, &g, &x, &s, state);
     end
 }

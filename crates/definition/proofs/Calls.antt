@@ -8,6 +8,7 @@ use lib.Dec.{eqb}
 use lib.ListN.{replicate}
 use borrow.Author.Tests.{eq-eqb, ne-eqb, eqb-true}
 use Rattle.lanes.specs.Lanes.{fileWords}
+use Rattle.memory.specs.Memories.{Contents}
 use Rattle.warp.specs.declared.Launch.{Launch}
 use Rattle.warp.specs.declared.Warp.{Warp}
 use Rattle.warp.specs.Warp.{zeroWarp, withStop, answered}
@@ -20,17 +21,17 @@ use Rattle.definition.proofs.Tests.{step-runs, step-malformed}
 
 -- ---- a launch
 
-module _ (k : List ℕ) (l : Launch) (v d : List ℕ) where
-  pub launch-size : runsOkOf (l .fixed) k v d ≡ false → launchOf k l v d ≡ outcome 1 (state zeroWarp v d)
+module _ (k : List ℕ) (l : Launch) (v : List ℕ) (c : Contents) where
+  pub launch-size : runsOkOf (l .fixed) k v c ≡ false → launchOf k l v c ≡ outcome 1 (state zeroWarp v c)
   unfolding launchOf
   launch-size a = rw a
 
-  module _ (a : runsOkOf (l .fixed) k v d ≡ true) where
-    pub launch-range : launchOkOf l ≡ false → launchOf k l v d ≡ outcome 1 (state zeroWarp v d)
+  module _ (a : runsOkOf (l .fixed) k v c ≡ true) where
+    pub launch-range : launchOkOf l ≡ false → launchOf k l v c ≡ outcome 1 (state zeroWarp v c)
     unfolding launchOf
     launch-range b = rw (a, b)
 
-    pub launch-done : launchOkOf l ≡ true → launchOf k l v d ≡ outcome 0 (state (launchedOf l) (replicate fileWords 0) d)
+    pub launch-done : launchOkOf l ≡ true → launchOf k l v c ≡ outcome 0 (state (launchedOf l) (replicate fileWords 0) c)
     unfolding launchOf
     launch-done b = rw (a, b)
 

@@ -1,18 +1,18 @@
--- Where no test of a store holds, the bytes that it overwrites lie inside the data memory.
+-- Where no test of a store holds, the bytes that it overwrites lie inside one of the memories.
 use Prim.Native.Nat.{ℕ, _+_, _≤_, _<_}
 use mathlib.Core.Path.{_≡_, refl, sym}
 use mathlib.Core.Bool.{Bool, true}
 use mathlib.Core.List.{List, [], _∷_}
-use native.Mathlib.Omega.{arith}
 use lib.ListN.{length}
 use Rattle.answer.specs.Rows.{_⇒_, first}
 use Rattle.answer.proofs.Rows.{passed}
 use Rattle.isa.specs.declared.Instr.{Instr}
 use Rattle.isa.specs.declared.Instr.the-variants as I
-use Rattle.memory.specs.Memory.{widthOf, insideOf, indexIn}
+use Rattle.memory.specs.Memory.{widthOf, indexIn}
+use Rattle.memory.specs.Memories.{Region, bytesAt, memoryAt, insideOne, regionOf}
 use Rattle.lanes.specs.declared.Lane.{Lane}
 use Rattle.memory.specs.LaneAccess.{allInside}
-use Rattle.memory.proofs.Access.{inside-true, all-inside-at}
+use Rattle.memory.proofs.Access.{inside-true, all-inside-at, inside-at, bytes-at}
 use Rattle.definition.specs.State.{State, fixedOf, active, memoryOf, scalarAt, laneAt, instrAt}
 use Rattle.definition.specs.Refuse.{someCrosses, refusalsOf}
 use Rattle.definition.specs.Step.{stepOf}
@@ -24,20 +24,20 @@ Lies m nothing = Unit {0}
 Lies m (scalar r) = Unit {0}
 Lies m (split j) = Unit {0}
 Lies m (lanes on r) = Unit {0}
-Lies m (bytes n on width place) = (l : Lane) → l .0 < n → on l ≡ true → place l + width ≤ length (m .bytes)
+Lies m (bytes n on e width at) = (l : Lane) → l .0 < n → on l ≡ true → (r : Region) → regionOf e width (at l) ≡ r → indexIn (memoryAt r e) (at l) + width ≤ length (bytesAt r (m .bytes))
 
 module _ (m : State) where
   abbrev fits : ℕ → ℕ → Bool
-  fits w a = insideOf (memoryOf m) w a
+  fits w a = insideOne (memoryOf m) w a
 
   abbrev allFit : ℕ → (Lane → ℕ) → Bool
-  allFit w at = allInside (fixedOf m .numt) (active m) (memoryOf m) w at
+  allFit w at = allInside (fixedOf m .numt) (active m) (insideOne (memoryOf m) w) at
 
-  one : (w a : ℕ) → fits w a ≡ true → indexIn (memoryOf m) a + w ≤ length (m .bytes)
-  one w a t = omega (arith, inside-true (memoryOf m) w a t)
+  one : (w a : ℕ) → fits w a ≡ true → (r : Region) → regionOf (memoryOf m) w a ≡ r → indexIn (memoryAt r (memoryOf m)) a + w ≤ length (bytesAt r (m .bytes))
+  one w a t r q = rw (← bytes-at (memoryOf m) r) (inside-true (memoryAt r (memoryOf m)) w a (inside-at (memoryOf m) w a t r q) .1)
 
-  each : (w : ℕ) (at : Lane → ℕ) → allFit w at ≡ true → (l : Lane) → l .0 < fixedOf m .numt → active m l ≡ true → indexIn (memoryOf m) (at l) + w ≤ length (m .bytes)
-  each w at e l b t = one w (at l) (all-inside-at (fixedOf m .numt) (active m) (memoryOf m) w at (sym e) l b t)
+  each : (w : ℕ) (at : Lane → ℕ) → allFit w at ≡ true → (l : Lane) → l .0 < fixedOf m .numt → active m l ≡ true → (r : Region) → regionOf (memoryOf m) w (at l) ≡ r → indexIn (memoryAt r (memoryOf m)) (at l) + w ≤ length (bytesAt r (m .bytes))
+  each w at e l b t = one w (at l) (all-inside-at (fixedOf m .numt) (active m) (insideOne (memoryOf m) w) at (sym e) l b t)
 
   pub lies : (i : Instr) → first (refusalsOf i m) ≡ 0 → Lies m (targetOf i m)
   unfolding targetOf refusalsOf
@@ -69,6 +69,6 @@ module _ (m : State) where
   lies (I.RegExtI n) h = tt
   lies (I.VStore s k a b n) h = each (widthOf k) (laneAt s a n m) (passed (14 ⇒ someCrosses s (widthOf k) a n m ∷ []) [] 9 (allFit (widthOf k) (laneAt s a n m)) refl h)
 
--- A taken step overwrites bytes of the data memory alone.
+-- A taken step overwrites bytes of the memories alone.
 pub step-inside : (k : List ℕ) (m : State) → stepOf k m .code ≡ 0 → Lies m (targetOf (instrAt k m) m)
 step-inside k m z = lies m (instrAt k m) (step-clear k m z .rest)

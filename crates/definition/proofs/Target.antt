@@ -19,9 +19,10 @@ use Rattle.lanes.specs.declared.Lane.{Lane}
 use Rattle.lanes.specs.Mask.{lane}
 use Rattle.lanes.specs.Lanes.{lanesMax, slotOf}
 use Rattle.lanes.proofs.Laws.{write-length, write-other}
-use Rattle.memory.specs.Memory.{widthOf, indexIn, storeOf}
+use Rattle.memory.specs.Memory.{widthOf, indexIn}
+use Rattle.memory.specs.Memories.{Region, Contents, Memories, bytesAt, memoryAt, regionOf, storeTo}
 use Rattle.memory.specs.LaneAccess.{storeLanes}
-use Rattle.memory.proofs.Laws.{store-length, store-unwritten, lanes-length, lanes-unwritten}
+use Rattle.memory.proofs.Laws.{Same, store-same, to-unwritten, lanes-same, lanes-unwritten}
 use Rattle.warp.specs.declared.Split.{Split}
 use Rattle.warp.specs.declared.Warp.{Warp}
 use Rattle.warp.specs.Warp.{zeroSplit, setX, writeX, next}
@@ -31,13 +32,13 @@ use Rattle.warp.specs.Csr.{isPrint, writesOf, csrAt, csrDone}
 use Rattle.definition.specs.State.{State, fixedOf, active, xOf, memoryOf, scalarAt, laneAt}
 use Rattle.definition.specs.Exec.{goes, writes, stores, effect, effectOf}
 
--- nothing; a scalar register; a split record; a register's words in the lanes that `on` picks; of each lane l below n that `on` picks, `width` bytes from `place l` on
+-- nothing; a scalar register; a split record; a register's words in the lanes that `on` picks; of each lane l below n that `on` picks, `width` bytes at the address `at l` of the memories
 pub data Target : Type 0 where
   nothing : Target
   scalar : XReg → Target
   split : ℕ → Target
   lanes : (Lane → Bool) → VReg → Target
-  bytes : ℕ → (Lane → Bool) → ℕ → (Lane → ℕ) → Target
+  bytes : ℕ → (Lane → Bool) → Memories → ℕ → (Lane → ℕ) → Target
 
 unfoldable pub targetOf : Instr → State → Target
 targetOf I.Refused m = nothing
@@ -47,7 +48,7 @@ targetOf (I.Jal r n) m = scalar r
 targetOf (I.Jalr r a n) m = scalar r
 targetOf (I.Branch c a b n) m = nothing
 targetOf (I.Load k r a n) m = scalar r
-targetOf (I.Store k a b n) m = bytes 1 (λ l. true) (widthOf k) (λ l. indexIn (memoryOf m) (scalarAt a n m))
+targetOf (I.Store k a b n) m = bytes 1 (λ l. true) (memoryOf m) (widthOf k) (λ l. scalarAt a n m)
 targetOf (I.OpImm o r a n) m = scalar r
 targetOf (I.OpReg o r a b) m = scalar r
 targetOf (I.Fence r a n) m = nothing
@@ -64,50 +65,50 @@ targetOf (I.SetRpc r a n) m = scalar r
 targetOf I.EndPrg m = nothing
 targetOf (I.Barrier n) m = nothing
 targetOf (I.VLoad s k r a n) m = lanes (active m) r
-targetOf (I.VStore s k a b n) m = bytes (fixedOf m .numt) (active m) (widthOf k) (λ l. indexIn (memoryOf m) (laneAt s a n m l))
+targetOf (I.VStore s k a b n) m = bytes (fixedOf m .numt) (active m) (memoryOf m) (widthOf k) (laneAt s a n m)
 targetOf (I.RegExt n) m = nothing
 targetOf (I.RegExtI n) m = nothing
 
--- the target spares scalar register i, split record i, word i of the vector file (of n lanes), byte i of the data
+-- the target spares scalar register i, split record i, word i of the vector file (of n lanes), byte i of the region r
 abbrev pub SparesX : Target → ℕ → Type 0
 SparesX (scalar r) i = i ≡ r .0 → ⊥
 SparesX nothing i = Unit {0}
 SparesX (split j) i = Unit {0}
 SparesX (lanes on r) i = Unit {0}
-SparesX (bytes n on width place) i = Unit {0}
+SparesX (bytes n on m width at) i = Unit {0}
 
 abbrev pub SparesSplit : Target → ℕ → Type 0
 SparesSplit (split j) i = i ≡ j → ⊥
 SparesSplit nothing i = Unit {0}
 SparesSplit (scalar r) i = Unit {0}
 SparesSplit (lanes on r) i = Unit {0}
-SparesSplit (bytes n on width place) i = Unit {0}
+SparesSplit (bytes n on m width at) i = Unit {0}
 
 abbrev pub SparesWord : ℕ → Target → ℕ → Type 0
 SparesWord n (lanes on r) i = (l : Lane) → l .0 < n → on l ≡ true → i ≡ slotOf r l → ⊥
 SparesWord n nothing i = Unit {0}
 SparesWord n (scalar r) i = Unit {0}
 SparesWord n (split j) i = Unit {0}
-SparesWord n (bytes k on width place) i = Unit {0}
+SparesWord n (bytes k on m width at) i = Unit {0}
 
-abbrev pub SparesByte : Target → ℕ → Type 0
-SparesByte (bytes n on width place) i = (l : Lane) → l .0 < n → on l ≡ true → place l ≤ i → i < place l + width → ⊥
-SparesByte nothing i = Unit {0}
-SparesByte (scalar r) i = Unit {0}
-SparesByte (split j) i = Unit {0}
-SparesByte (lanes on r) i = Unit {0}
+abbrev pub SparesByte : Target → Region → ℕ → Type 0
+SparesByte (bytes n on m width at) r i = (l : Lane) → l .0 < n → on l ≡ true → regionOf m width (at l) ≡ r → indexIn (memoryAt r m) (at l) ≤ i → i < indexIn (memoryAt r m) (at l) + width → ⊥
+SparesByte nothing r i = Unit {0}
+SparesByte (scalar x) r i = Unit {0}
+SparesByte (split j) r i = Unit {0}
+SparesByte (lanes on v) r i = Unit {0}
 
 -- from m to n nothing outside the target t changes, and no list its length
 pub record Within (m : State) (t : Target) (n : State) : Type 0 where
   pub x : (i : ℕ) → SparesX t i → getD (n .warp .x) i 0 ≡ getD (m .warp .x) i 0
   pub splits : (i : ℕ) → SparesSplit t i → getD (n .warp .splits) i zeroSplit ≡ getD (m .warp .splits) i zeroSplit
   pub vector : (i : ℕ) → SparesWord (fixedOf m .numt) t i → getD (n .vector) i 0 ≡ getD (m .vector) i 0
-  pub memory : (i : ℕ) → SparesByte t i → getD (n .bytes) i 0 ≡ getD (m .bytes) i 0
+  pub memory : (r : Region) (i : ℕ) → SparesByte t r i → getD (bytesAt r (n .bytes)) i 0 ≡ getD (bytesAt r (m .bytes)) i 0
   pub fixed : n .warp .fixed ≡ m .warp .fixed
   pub scalars : length (n .warp .x) ≡ length (m .warp .x)
   pub records : length (n .warp .splits) ≡ length (m .warp .splits)
   pub words : length (n .vector) ≡ length (m .vector)
-  pub size : length (n .bytes) ≡ length (m .bytes)
+  pub size : Same (n .bytes) (m .bytes)
 
 put-other : (r : XReg) (y : ℕ) (x : List ℕ) (i : ℕ) → (i ≡ r .0 → ⊥) → getD (setX r y x) i 0 ≡ getD x i 0
 put-other r y x i n = by-cond (λ (l : List ℕ). getD l i 0 ≡ getD x i 0) (eqb (r .0) 0) _ _ (λ e. refl) (λ e. getD-set-other x (r .0) i y 0 n)
@@ -123,12 +124,12 @@ module _ (m : State) where
         x = λ i h. ap (λ (l : List ℕ). getD l i 0) p;
         splits = λ i h. ap (λ (l : List Split). getD l i zeroSplit) q;
         vector = λ i h. refl;
-        memory = λ i h. refl;
+        memory = λ r i h. refl;
         fixed = f;
         scalars = ap length p;
         records = ap length q;
         words = refl;
-        size = refl;
+        size = λ r. refl;
       }
 
   puts : (r : XReg) (y : ℕ) (u : Warp) → u .x ≡ setX r y (m .warp .x) → u .splits ≡ m .warp .splits → u .fixed ≡ m .warp .fixed → Within m (scalar r) (effect (goes u) m)
@@ -137,12 +138,12 @@ module _ (m : State) where
         x = λ i h. ap (λ (l : List ℕ). getD l i 0) p ∙ put-other r y (m .warp .x) i h;
         splits = λ i h. ap (λ (l : List Split). getD l i zeroSplit) q;
         vector = λ i h. refl;
-        memory = λ i h. refl;
+        memory = λ r i h. refl;
         fixed = f;
         scalars = ap length p ∙ put-length r y (m .warp .x);
         records = ap length q;
         words = refl;
-        size = refl;
+        size = λ r. refl;
       }
 
   records-at : (j : ℕ) (s : Split) (u : Warp) → u .x ≡ m .warp .x → u .splits ≡ set (m .warp .splits) j s → u .fixed ≡ m .warp .fixed → Within m (split j) (effect (goes u) m)
@@ -151,12 +152,12 @@ module _ (m : State) where
         x = λ i h. ap (λ (l : List ℕ). getD l i 0) p;
         splits = λ i h. ap (λ (l : List Split). getD l i zeroSplit) q ∙ getD-set-other (m .warp .splits) j i s zeroSplit h;
         vector = λ i h. refl;
-        memory = λ i h. refl;
+        memory = λ r i h. refl;
         fixed = f;
         scalars = ap length p;
         records = ap length q ∙ length-set (m .warp .splits) j s;
         words = refl;
-        size = refl;
+        size = λ r. refl;
       }
 
   fills : (on : Lane → Bool) (r : VReg) (f : Lane → ℕ) → Within m (lanes on r) (effect (writes on r f) m)
@@ -165,25 +166,25 @@ module _ (m : State) where
         x = λ i h. refl;
         splits = λ i h. refl;
         vector = λ i h. write-other on r f (m .vector) (fixedOf m .numt) i h;
-        memory = λ i h. refl;
+        memory = λ r i h. refl;
         fixed = refl;
         scalars = refl;
         records = refl;
         words = write-length on r f (m .vector) (fixedOf m .numt);
-        size = refl;
+        size = λ r. refl;
       }
 
-  kept : (t : Target) (e : List ℕ) → ((i : ℕ) → SparesByte t i → getD e i 0 ≡ getD (m .bytes) i 0) → length e ≡ length (m .bytes) → Within m t (effect (stores e) m)
+  kept : (t : Target) (e : Contents) → ((r : Region) (i : ℕ) → SparesByte t r i → getD (bytesAt r e) i 0 ≡ getD (bytesAt r (m .bytes)) i 0) → Same e (m .bytes) → Within m t (effect (stores e) m)
   kept t e o s =
       record { x = λ i h. refl; splits = λ i h. refl; vector = λ i h. refl; memory = o; fixed = refl; scalars = refl; records = refl; words = refl; size = s }
 
-  stored : (k : StoreOp) (a y : ℕ) → Within m (bytes 1 (λ l. true) (widthOf k) (λ l. indexIn (memoryOf m) a)) (effect (stores (storeOf k a y (memoryOf m))) m)
-  stored k a y = kept _ _ (λ i h. store-unwritten k a y (memoryOf m) i (h (lane 0) (omega arith) refl)) (store-length k a y (memoryOf m))
+  stored : (k : StoreOp) (a y : ℕ) → Within m (bytes 1 (λ l. true) (memoryOf m) (widthOf k) (λ l. a)) (effect (stores (storeTo k a y (memoryOf m))) m)
+  stored k a y = kept _ _ (λ r i h. to-unwritten k a y (memoryOf m) r i (h (lane 0) (omega arith) refl)) (store-same k a y (memoryOf m))
 
   lane-stored : (on : Lane → Bool) (k : StoreOp) (at y : Lane → ℕ)
-      → Within m (bytes (fixedOf m .numt) on (widthOf k) (λ l. indexIn (memoryOf m) (at l))) (effect (stores (storeLanes (fixedOf m .numt) on k at y (memoryOf m))) m)
+      → Within m (bytes (fixedOf m .numt) on (memoryOf m) (widthOf k) at) (effect (stores (storeLanes (fixedOf m .numt) on k at y (memoryOf m))) m)
   lane-stored on k at y =
-      kept _ _ (λ i h. lanes-unwritten (fixedOf m .numt) on k at y (memoryOf m) i h) (lanes-length (fixedOf m .numt) on k at y (memoryOf m))
+      kept _ _ (lanes-unwritten (fixedOf m .numt) on k at y (memoryOf m)) (lanes-same (fixedOf m .numt) on k at y (memoryOf m))
 
   abbrev G : Target → Warp → Type 0
   G t u = Within m t (effect (goes u) m)
@@ -256,7 +257,7 @@ SmallTarget nothing = Unit {0}
 SmallTarget (scalar r) = Unit {0}
 SmallTarget (split j) = Unit {0}
 SmallTarget (lanes on r) = Unit {0}
-SmallTarget (bytes n on width place) = (n ≤ lanesMax) × (width ≤ 4)
+SmallTarget (bytes n on m width at) = (n ≤ lanesMax) × (width ≤ 4)
 
 four : (k : StoreOp) → widthOf k ≤ 4
 four S.B = lit≤ tt

@@ -6,6 +6,7 @@ use lib.Dec.{eqb}
 use lib.ListN.{replicate}
 use Rattle.answer.specs.Rows.{first}
 use Rattle.lanes.specs.Lanes.{fileWords}
+use Rattle.memory.specs.Memories.{Contents}
 use Rattle.warp.specs.declared.Launch.{Launch}
 use Rattle.warp.specs.declared.Warp.{Warp}
 use Rattle.isa.specs.Bounds.{scalarRegisters}
@@ -15,7 +16,7 @@ use Rattle.definition.specs.State.{State, state, Outcome, outcome, unles
 use Rattle.definition.specs.Refuse.{stateTests, launchTests, releaseTests}
 use Rattle.definition.specs.Step.{stepOf}
 
--- ---- launch: scalar registers, RPC and PRINT 0, the mask the launch mask, no split open, no prefix pending; the vector file 0, data memory as lent
+-- ---- launch: scalar registers, RPC and PRINT 0, the mask the launch mask, no split open, no prefix pending; the vector file 0, the memories as lent
 abbrev pub launchedOf : Launch → Warp
 launchedOf l =
     record {
@@ -33,8 +34,8 @@ launchedOf l =
     }
 
 -- a refused launch returns a warp of all zeros, and no lent word or byte changes
-unfoldable pub launchOf : List ℕ → Launch → List ℕ → List ℕ → Outcome
-launchOf k l v d = unless (first (launchTests k l v d)) (state (launchedOf l) (replicate fileWords 0) d) (state zeroWarp v d)
+unfoldable pub launchOf : List ℕ → Launch → List ℕ → Contents → Outcome
+launchOf k l v c = unless (first (launchTests k l v c)) (state (launchedOf l) (replicate fileWords 0) c) (state zeroWarp v c)
 
 -- ---- run: the steps taken, and what is left
 pub record Ran : Type 0 where

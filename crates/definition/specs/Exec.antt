@@ -1,7 +1,6 @@
 -- What each instruction does where no test refuses it: total, with no number in it, one line an instruction.
 use Prim.Native.Nat.{ℕ, _*_, _%_, _^_}
 use mathlib.Core.Bool.{Bool, true, false, cond, _||_}
-use mathlib.Core.List.{List}
 use denote.Enum.Declared.{tagOf}
 use lib.Dec.{eqb}
 use Rattle.word.specs.Word.{addOf, applyOf, holdsOf, extendOf}
@@ -20,7 +19,7 @@ use Rattle.lanes.specs.declared.Lane.{Lane}
 use Rattle.lanes.specs.Lanes.{laneOf, operandOf, opLane, writeLanes, valueOf}
 use Rattle.lanes.specs.declared.Operand.{Operand}
 use Rattle.lanes.specs.declared.Operand.the-variants.{Reg, Word}
-use Rattle.memory.specs.Memory.{loadOf, storeOf}
+use Rattle.memory.specs.Memories.{Contents, loadFrom, storeTo}
 use Rattle.memory.specs.LaneAccess.{storeLanes}
 use Rattle.warp.specs.declared.Warp.{Warp}
 use Rattle.warp.specs.Warp.{withStop, writeX, next, pends, linked, branched}
@@ -28,11 +27,11 @@ use Rattle.warp.specs.Splits.{parted, joinOf, setRpcOf}
 use Rattle.warp.specs.Csr.{csrDone}
 use Rattle.definition.specs.State.{State, state, fixedOf, active, xOf, pcBy, evenOf, memoryOf, scalarAt, laneAt, elseOf}
 
--- the warp becomes u; register r of each lane l below NUMT that `on` picks gets f l, then PC + 4; the data memory's bytes become e, then PC + 4
+-- the warp becomes u; register r of each lane l below NUMT that `on` picks gets f l, then PC + 4; the memories' bytes become e, then PC + 4
 pub data Effect : Type 0 where
   goes : Warp → Effect
   writes : (Lane → Bool) → VReg → (Lane → ℕ) → Effect
-  stores : List ℕ → Effect
+  stores : Contents → Effect
 
 abbrev pub effect : Effect → State → State
 effect (goes u) m = state u (m .vector) (m .bytes)
@@ -63,7 +62,7 @@ sourceOf f (From.I i) m = Word (f 5 i)
 sourceOf f (From.Long i) m = Word (f 11 i)
 
 abbrev pub loaded : LoadOp → ℕ → State → ℕ
-loaded k a m = loadOf k (memoryOf m) a
+loaded k a m = loadFrom k (memoryOf m) a
 
 unfoldable pub effectOf : Instr → State → Effect
 effectOf I.Refused m = goes (m .warp)
@@ -73,7 +72,7 @@ effectOf (I.Jal r n) m = goes (linked r (pcBy 21 n m) (m .warp))
 effectOf (I.Jalr r a n) m = goes (linked r (evenOf (scalarAt a n m)) (m .warp))
 effectOf (I.Branch c a b n) m = goes (branched (holdsOf c (xOf a m) (xOf b m)) (pcBy 13 n m) (m .warp))
 effectOf (I.Load k r a n) m = puts r (loaded k (scalarAt a n m) m) m
-effectOf (I.Store k a b n) m = stores (storeOf k (scalarAt a n m) (xOf b m) (memoryOf m))
+effectOf (I.Store k a b n) m = stores (storeTo k (scalarAt a n m) (xOf b m) (memoryOf m))
 effectOf (I.OpImm o r a n) m = puts r (applyOf o (xOf a m) (extendOf 12 n)) m
 effectOf (I.OpReg o r a b) m = puts r (applyOf o (xOf a m) (xOf b m)) m
 effectOf (I.Fence r a n) m = goes (next (m .warp))

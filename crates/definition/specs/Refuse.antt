@@ -13,7 +13,8 @@ use Rattle.isa.specs.declared.Space.{Space}
 use Rattle.isa.specs.declared.VReg.{VReg}
 use Rattle.lanes.specs.declared.Lane.{Lane}
 use Rattle.lanes.specs.Lanes.{fileWords, laneOf, uniformOf}
-use Rattle.memory.specs.Memory.{memory, memoryOkOf, sizeOf, widthOf, insideOf}
+use Rattle.memory.specs.Memory.{sizeOf, widthOf}
+use Rattle.memory.specs.Memories.{Contents, memoriesOkOf, insideOne}
 use Rattle.memory.specs.LaneAccess.{allInside, allInWord}
 use Rattle.warp.specs.declared.Fixed.{Fixed}
 use Rattle.warp.specs.declared.Launch.{Launch}
@@ -21,7 +22,7 @@ use Rattle.warp.specs.declared.Warp.{Warp}
 use Rattle.warp.specs.Warp.{aligned}
 use Rattle.warp.specs.WellFormed.{launchOkOf, wellFormedOf}
 use Rattle.warp.specs.Csr.{isCsr, isPrint, isRpc, writesOf}
-use Rattle.definition.specs.State.{State, fixedOf, active, xOf, pcBy, evenOf, memoryOf, scalarAt, laneAt, elseOf, placeOf, instrAt}
+use Rattle.definition.specs.State.{State, fixedOf, active, xOf, pcBy, evenOf, memoriesIn, memoryOf, scalarAt, laneAt, elseOf, placeOf, instrAt}
 
 -- ---- 1 and 2: the lent runs, and the state handed in
 
@@ -29,14 +30,14 @@ use Rattle.definition.specs.State.{State, fixedOf, active, xOf, pcBy, ev
 abbrev pub kernelLimit : ℕ
 kernelLimit = 16384
 
--- the sizes of kernel k, vector file v and data d, and their bases plus lengths
-unfoldable pub runsOkOf : Fixed → List ℕ → List ℕ → List ℕ → Bool
-runsOkOf f k v d =
+-- the sizes of kernel k, vector file v and memories c, their bases plus lengths, and that the memories don't overlap
+unfoldable pub runsOkOf : Fixed → List ℕ → List ℕ → Contents → Bool
+runsOkOf f k v c =
     every
     (between 1 (length k) kernelLimit
     ∷ leb (f .codeBase + 4 * length k) (2 ^ 32)
     ∷ eqb (length v) fileWords
-    ∷ memoryOkOf (memory (f .dataBase) d)
+    ∷ memoriesOkOf (memoriesIn f c)
     ∷ [])
 
 -- what a step and a run test first
@@ -61,12 +62,12 @@ noCsr o n rs1 = not (isCsr n) || (writesOf o rs1 && not (isPrint n || isRpc n))
 abbrev pub astray : ℕ → Bool
 astray p = not (aligned p)
 
--- a scalar access of n bytes at the address a isn't wholly inside data memory; that of some active lane l, at the address `at l`, isn't
+-- a scalar access of n bytes at the address a isn't wholly inside a memory; that of some active lane l, at the address `at l`, isn't
 abbrev pub outside : ℕ → ℕ → State → Bool
-outside n a m = not (insideOf (memoryOf m) n a)
+outside n a m = not (insideOne (memoryOf m) n a)
 
 abbrev pub someOutside : ℕ → (Lane → ℕ) → State → Bool
-someOutside n at m = not (allInside (fixedOf m .numt) (active m) (memoryOf m) n at)
+someOutside n at m = not (allInside (fixedOf m .numt) (active m) (insideOne (memoryOf m) n) at)
 
 -- some active lane's private access of n bytes, by register a's lane and the offset off, crosses a word boundary of the lane
 abbrev pub someCrosses : Space → ℕ → VReg → ℕ → State → Bool
@@ -127,8 +128,8 @@ abbrev pub stepNumbers : List ℕ
 stepNumbers = 1 ∷ 2 ∷ 3 ∷ 4 ∷ 5 ∷ 6 ∷ 7 ∷ 8 ∷ 9 ∷ 10 ∷ 11 ∷ 14 ∷ []
 
 -- a launch: 1 for a size, and 1 for a launch value out of range
-abbrev pub launchTests : List ℕ → Launch → List ℕ → List ℕ → List (Row Bool)
-launchTests k l v d = 1 ⇒ not (runsOkOf (l .fixed) k v d) ∷ 1 ⇒ not (launchOkOf l) ∷ []
+abbrev pub launchTests : List ℕ → Launch → List ℕ → Contents → List (Row Bool)
+launchTests k l v c = 1 ⇒ not (runsOkOf (l .fixed) k v c) ∷ 1 ⇒ not (launchOkOf l) ∷ []
 
 -- a release, which lends no run
 abbrev pub releaseTests : Warp → List (Row Bool)

@@ -15,20 +15,20 @@ use Rattle.isa.specs.Prefix.{noPrefix, prefixed}
 use Rattle.lanes.specs.declared.Lane.{Lane}
 use Rattle.lanes.specs.Mask.{bit}
 use Rattle.lanes.specs.Lanes.{maskOf, wantsOf}
-use Rattle.memory.specs.Memory.{Memory, memory}
+use Rattle.memory.specs.Memories.{Contents, Memories, memories}
 use Rattle.memory.specs.Address.{plainOf, laneAddress}
 use Rattle.memory.specs.declared.Private.{Private}
 use Rattle.warp.specs.declared.Fixed.{Fixed}
 use Rattle.warp.specs.declared.Warp.{Warp}
 use Rattle.warp.specs.Warp.{readX, withPrefix}
 
--- the warp, the vector file and the bytes of the data memory
+-- the warp, the vector file and the bytes of the memories: of a single warp `alone d`, the data memory's bytes d and no local memory
 pub record State : Type 0 where
   pub warp : Warp
   pub vector : List ℕ
-  pub bytes : List ℕ
+  pub bytes : Contents
 
-abbrev pub state : Warp → List ℕ → List ℕ → State
+abbrev pub state : Warp → List ℕ → Contents → State
 state w v d = record { warp = w; vector = v; bytes = d }
 
 -- the answer's number (0, or that of the refusal), and what is left
@@ -63,9 +63,12 @@ pcBy n i m = addOf (m .warp .pc) (extendOf n i)
 abbrev pub evenOf : ℕ → ℕ
 evenOf p = p - p % 2
 
--- the data memory, with its base
-abbrev pub memoryOf : State → Memory
-memoryOf m = memory (fixedOf m .dataBase) (m .bytes)
+-- the memories, at their bases
+abbrev pub memoriesIn : Fixed → Contents → Memories
+memoriesIn f c = memories (f .dataBase) (f .lds) c
+
+abbrev pub memoryOf : State → Memories
+memoryOf m = memoriesIn (fixedOf m) (m .bytes)
 
 -- the address of a scalar access
 abbrev pub scalarAt : XReg → ℕ → State → ℕ

@@ -13,6 +13,7 @@ use Rattle.warp.specs.WellFormed.{wellFormedOf}
 use Rattle.warp.specs.Facts.{Formed}
 use Rattle.layout.specs.Words.{movingCount, flatCount, fixedIn, warpOf, soundOf}
 use Rattle.layout.proofs.Words.{lent-words}
+use Rattle.memory.specs.Memories.{Region, bytesAt}
 use Rattle.definition.specs.State.{State, Outcome, outcome, instrAt}
 use Rattle.definition.specs.Refuse.{runsOkOf}
 use Rattle.definition.specs.Step.{stepOf}
@@ -34,11 +35,11 @@ pub record Going (k : List ℕ) (n : ℕ) (a b : Lists) (t : ℕ) : Type 0 where
   pub few : t ≤ n
   pub started : Started k b
   pub vector : length (b .vector) ≡ length (a .vector)
-  pub bytes : length (b .bytes) ≡ length (a .bytes)
+  pub bytes : (r : Region) → length (bytesAt r (b .bytes)) ≡ length (bytesAt r (a .bytes))
   pub goes : stepsOf k n 0 (lentState a) ≡ stepsOf k (n - t) t (lentState b)
 
 pub going-start : (k : List ℕ) (n : ℕ) (a : Lists) → Started k a → Going k n a a 0
-going-start k n a r = record { few = omega arith; started = r; vector = refl; bytes = refl; goes = rw sub-zero }
+going-start k n a r = record { few = omega arith; started = r; vector = refl; bytes = λ r. refl; goes = rw sub-zero }
 
 -- a step from such a turn
 module _ (k : List ℕ) (n : ℕ) (a b : Lists) (t : ℕ) (r : Going k n a b t) (l : t < n) (c : ℕ) (b' : Lists) (q : Handles (stepOf k) c b b') where
@@ -58,8 +59,8 @@ module _ (k : List ℕ) (n : ℕ) (a b : Lists) (t : ℕ) (r : Going k n a b t) 
   keeps-sound : soundOf (b' .moving) (b' .splits) ≡ true
   keeps-sound = q .sound (r .started .lent .sound)
 
-  pub step-lengths : (length (b' .vector) ≡ length (a .vector)) × (length (b' .bytes) ≡ length (a .bytes))
-  step-lengths = (within .words ∙ r .vector, within .size ∙ r .bytes)
+  pub step-lengths : (length (b' .vector) ≡ length (a .vector)) × ((s : Region) → length (bytesAt s (b' .bytes)) ≡ length (bytesAt s (a .bytes)))
+  step-lengths = (within .words ∙ r .vector, λ s. within .size s ∙ r .bytes s)
 
   pub going-on : c ≡ 0 → Going k n a b' (t + 1)
   going-on z =
@@ -87,13 +88,14 @@ module _ (k : List ℕ) (n : ℕ) (a b : Lists) (t : ℕ) (r : Going k n a b t) 
         long = q .long;
         room = q .room;
         sound = keeps-sound;
+        size = step-lengths .1;
         drives = sym (r .goes ∙ steps-stop k n t (lentState b) l (λ e. z (sym code-is ∙ e)) ∙ ap (ran t) (sym (q .goes)));
       }
 
 pub drives-end : (k : List ℕ) (n : ℕ) (a b : Lists) (t c : ℕ) → Going k n a b t → c ≡ 0 → n ≤ t → Drives k n c t a b
 drives-end k n a b t c r z l =
     let w = r .started .lent in
-    rw z (record { known = lit≤ tt; long = w .long; room = w .room; sound = w .sound; drives = sym (r .goes ∙ steps-end k n t (lentState b) l) })
+    rw z (record { known = lit≤ tt; long = w .long; room = w .room; sound = w .sound; size = r .bytes; drives = sym (r .goes ∙ steps-end k n t (lentState b) l) })
 
 -- ---- a run of the words
 
@@ -104,7 +106,7 @@ run-sound k n a o = rw o
 
 module _ (k : List ℕ) (n : ℕ) (a : Lists) (lh : length (a .moving) ≡ movingCount) (ls : length (a .splits) ≡ flatCount) where
   refused : (c : ℕ) → c ≤ lastStepNumber → ran 0 (outcome c (lentState a)) ≡ runWordsOf k n a → RunsWords k n c 0 a a
-  refused c h e = record { known = h; long = lh; room = ls; sound = λ o. o; kept = λ o. refl; runs = e }
+  refused c h e = record { known = h; long = lh; room = ls; sound = λ o. o; kept = λ o. refl; size = λ r. refl; runs = e }
 
   pub words-size : runsOkOf (fixedIn (a .fixed)) k (a .vector) (a .bytes) ≡ false → RunsWords k n 1 0 a a
   unfolding runWordsOf warpOf
@@ -139,5 +141,6 @@ module _ (k : List ℕ) (n : ℕ) (a : Lists) (lh : length (a .moving) ≡ movin
             room = q .room;
             sound = λ o. q .sound;
             kept = λ o. absurd (true≢false (sym (p .0) ∙ o));
+            size = q .size;
             runs = q .drives ∙ sym (run-sound k n a (p .0) ∙ run-steps k n (lentState a) e (p .1));
           }

@@ -5,6 +5,7 @@ use mathlib.Core.Bool.{true, false, cond}
 use mathlib.Core.List.{List}
 use lib.ListN.{length}
 use Rattle.answer.specs.Answer.{lastStepNumber}
+use Rattle.memory.specs.Memories.{Region, bytesAt}
 use Rattle.layout.specs.Words.{movingCount, flatCount, fixedIn, soundOf}
 use Rattle.definition.specs.State.{outcome}
 use Rattle.definition.specs.Refuse.{runsOkOf}
@@ -17,6 +18,7 @@ pub record Drives (k : List ℕ) (n c t : ℕ) (a b : Lists) : Type 0 where
   pub long : length (b .moving) ≡ movingCount
   pub room : length (b .splits) ≡ flatCount
   pub sound : soundOf (b .moving) (b .splits) ≡ true
+  pub size : (r : Region) → length (bytesAt r (b .bytes)) ≡ length (bytesAt r (a .bytes))
   pub drives : ran t (outcome c (lentState b)) ≡ stepsOf k n 0 (lentState a)
 
 -- a run of any words: those that aren't a warp's are refused, after the test of the sizes
@@ -32,4 +34,5 @@ pub record RunsWords (k : List ℕ) (n c t : ℕ) (a b : Lists) : Type 0 where
   pub room : length (b .splits) ≡ flatCount
   pub sound : soundOf (a .moving) (a .splits) ≡ true → soundOf (b .moving) (b .splits) ≡ true
   pub kept : soundOf (a .moving) (a .splits) ≡ false → b ≡ a
+  pub size : (r : Region) → length (bytesAt r (b .bytes)) ≡ length (bytesAt r (a .bytes))
   pub runs : ran t (outcome c (lentState b)) ≡ runWordsOf k n a

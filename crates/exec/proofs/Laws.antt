@@ -34,6 +34,7 @@ use Rattle.definition.specs.Exec.{goes, effectOf}
 use Rattle.definition.specs.Step.{execOf, stepOf, Fetched, fetched, fetchOf}
 use Rattle.definition.proofs.Sizes.{sizes}
 use Rattle.definition.proofs.Tests.{keeping, step-unfetched, step-fetched, exec-refused}
+use Rattle.memory.specs.Memories.{Contents}
 use Rattle.handlers.specs.Handles.{lists, Handles}
 use Rattle.handlers.proofs.Laws.{moved}
 use Rattle.lane_handlers.specs.Lanes.{Lanes}
@@ -41,7 +42,7 @@ use Rattle.exec.specs.Ready.{Ready, Started, Lies, Widens}
 
 -- ---- what a well-formed warp's words give the handlers
 
-module _ (g h x s v d : List ℕ) (r : Ready (lists g h x s v d)) where
+module _ (g h x s v : List ℕ) (d : Contents) (r : Ready (lists g h x s v d)) where
   pub ready-fixed : FixedOk (fixedIn g)
   unfolding warpOf
   ready-fixed = fixed-ok (fixedIn g) (r .lent .formed .fixed)
@@ -157,7 +158,7 @@ none-goes g h x s z n e = record { long = z; room = n; sound = λ o. o; goes = a
 pub own-is : (p : Prefix) (k w c z : ℕ) → Widens p w c z → c ≡ 0 → instrOf k w ≡ decodeOf w → wideOf k z ≡ prefixed p (decodeOf w)
 own-is p k w c z q e i = q .taken e k i
 
-pub pended : (i : Instr) (k n c : ℕ) (g h x s v d h' : List ℕ) → c ≡ 0 → Goes (pends k n) g h x s h' x s → first (refusalsOf i (state (warpOf g h x s) v d)) ≡ 0
+pub pended : (i : Instr) (k n c : ℕ) (g h x s v : List ℕ) (d : Contents) (h' : List ℕ) → c ≡ 0 → Goes (pends k n) g h x s h' x s → first (refusalsOf i (state (warpOf g h x s) v d)) ≡ 0
     → effectOf i (state (warpOf g h x s) v d) ≡ goes (pends k n (warpOf g h x s)) → Handles (execOf i) c (lists g h x s v d) (lists g h' x s v d)
 pended i k n c g h x s v d h' z q e f = rw z (moved i (pends k n) g h x s v d h' x s q e f)
 
@@ -168,7 +169,7 @@ exec-kept : (i : Instr) (m : State) → (execOf i m .code ≡ 0 → ⊥) → exe
 unfolding execOf
 exec-kept i m n = rw (ne-eqb _ _ n)
 
-module _ (k g h x s v d : List ℕ) (r : Started k (lists g h x s v d)) where
+module _ (k g h x s v : List ℕ) (d : Contents) (r : Started k (lists g h x s v d)) where
   pub started-code : fixedIn g .codeBase + 4 * length k ≤ 2 ^ 32
   started-code = sizes (fixedIn g) k v d (r .sizes) .code-ok
 
@@ -233,10 +234,10 @@ module _ (k g h x s v d : List ℕ) (r : Started k (lists g h x s v d)) where
           record {
             lent = record { long = p .long; room = p .room; formed = rw (p .goes) (formed-unprefixed (warpOf g h x s) (r .lent .formed)); sound = p .sound (r .lent .sound) };
             file = y .file-is;
-            data-ok = y .data-ok;
+            memories-ok = (y .data-ok, y .local-ok);
           }
 
-      module _ (i : Instr) (n : ℕ) (hb xb sb vb db : List ℕ) (ei : i ≡ own) (q : Handles (execOf i) n (lists g h' x s v d) (lists g hb xb sb vb db)) where
+      module _ (i : Instr) (n : ℕ) (hb xb sb vb : List ℕ) (db : Contents) (ei : i ≡ own) (q : Handles (execOf i) n (lists g h' x s v d) (lists g hb xb sb vb db)) where
         abbrev B : State
         B = state (warpOf g hb xb sb) vb db
 

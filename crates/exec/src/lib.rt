@@ -51,6 +51,7 @@ ghost use Rattle.isa.specs.Fields.{fieldsOf};
 ghost use Rattle.isa.specs.Table.{wordAt};
 ghost use Rattle.isa.specs.Kinds.{laneGroups, ofRegisters, ofImmediates, instrOf};
 ghost use Rattle.isa.specs.Wide.{wideOf};
+ghost use Rattle.memory.specs.Memories.{contents};
 ghost use Rattle.warp.specs.WellFormed.{prefixOkOf};
 ghost use Rattle.isa.specs.Prefix.{noPrefix};
 ghost use Rattle.warp.specs.Warp.{withPrefix};
@@ -70,24 +71,25 @@ fn lane_word(
     s: &mut [u32; FLAT],
     v: &mut [u32],
     d: &mut [u8],
+    l: &mut [u8],
     kind: u32,
     w: u64,
 ) -> u32
-    requires { ⌜ Ready (lists (now g) (now h) (now x) (now s) (now v) (now d)) × (instrOf kind w ≡ wordAt (fieldsOf w) kind (laneGroups ++ ofRegisters ++ ofImmediates)) ⌝ }
-    ensures { λ c. ⌜ Handles (execOf (wideOf kind w)) c (lists (now (g .entry)) (now (h .entry)) (now (x .entry)) (now (s .entry)) (now (v .entry)) (now (d .entry))) (lists (now (g .entry)) (now (h .exit)) (now (x .exit)) (now (s .exit)) (now (v .exit)) (now (d .exit))) ⌝ }
+    requires { ⌜ Ready (lists (now g) (now h) (now x) (now s) (now v) (contents (now d) (now l))) × (instrOf kind w ≡ wordAt (fieldsOf w) kind (laneGroups ++ ofRegisters ++ ofImmediates)) ⌝ }
+    ensures { λ c. ⌜ Handles (execOf (wideOf kind w)) c (lists (now (g .entry)) (now (h .entry)) (now (x .entry)) (now (s .entry)) (now (v .entry)) (contents (now (d .entry)) (now (l .entry)))) (lists (now (g .entry)) (now (h .exit)) (now (x .exit)) (now (s .exit)) (now (v .exit)) (contents (now (d .exit)) (now (l .exit)))) ⌝ }
 {
     let mask = h[MASK];
     match kind {
         kinds::VBRANCH => vbranch(h, g, s, v, w),
         kinds::SETRPC => setrpc(h, x, w),
-        kinds::VLOAD => on_if(vload(Space::Plain, imm_i(w), mask, g, v, d, w), h),
-        kinds::VSTORE => on_if(vstore(Space::Plain, imm_s(w), mask, g, v, d, w), h),
+        kinds::VLOAD => on_if(vload(Space::Plain, imm_i(w), mask, g, v, d, l, w), h),
+        kinds::VSTORE => on_if(vstore(Space::Plain, imm_s(w), mask, g, v, d, l, w), h),
         kinds::PLOAD => on_if(
-            vload(Space::Private, private_load_offset(w), mask, g, v, d, w),
+            vload(Space::Private, private_load_offset(w), mask, g, v, d, l, w),
             h,
         ),
         kinds::PSTORE => on_if(
-            vstore(Space::Private, private_store_offset(w), mask, g, v, d, w),
+            vstore(Space::Private, private_store_offset(w), mask, g, v, d, l, w),
             h,
         ),
         kinds::JOIN => join(h, s),
@@ -111,11 +113,12 @@ fn exec(
     s: &mut [u32; FLAT],
     v: &mut [u32],
     d: &mut [u8],
+    l: &mut [u8],
     kind: u32,
     w: u64,
 ) -> u32
-    requires { ⌜ Ready (lists (now g) (now h) (now x) (now s) (now v) (now d)) ⌝ }
-    ensures { λ c. ⌜ Handles (execOf (wideOf kind w)) c (lists (now (g .entry)) (now (h .entry)) (now (x .entry)) (now (s .entry)) (now (v .entry)) (now (d .entry))) (lists (now (g .entry)) (now (h .exit)) (now (x .exit)) (now (s .exit)) (now (v .exit)) (now (d .exit))) ⌝ }
+    requires { ⌜ Ready (lists (now g) (now h) (now x) (now s) (now v) (contents (now d) (now l))) ⌝ }
+    ensures { λ c. ⌜ Handles (execOf (wideOf kind w)) c (lists (now (g .entry)) (now (h .entry)) (now (x .entry)) (now (s .entry)) (now (v .entry)) (contents (now (d .entry)) (now (l .entry)))) (lists (now (g .entry)) (now (h .exit)) (now (x .exit)) (now (s .exit)) (now (v .exit)) (contents (now (d .exit)) (now (l .exit)))) ⌝ }
 {
     if kinds::VECTOR <= kind {
         return vector(h, g, x, v, kind, w);
@@ -126,11 +129,11 @@ fn exec(
         kinds::JAL => jal(h, x, w),
         kinds::JALR => jalr(h, x, w),
         kinds::BRANCH => branch(h, x, w),
-        kinds::LOAD => load(h, g, x, d, w),
-        kinds::STORE => store(h, g, x, d, w),
+        kinds::LOAD => load(h, g, x, d, l, w),
+        kinds::STORE => store(h, g, x, d, l, w),
         kinds::FENCE => on(h, w),
         kinds::CSR => csr(h, g, x, w),
-        _ => lane_word(h, g, x, s, v, d, kind, w),
+        _ => lane_word(h, g, x, s, v, d, l, kind, w),
     }
 }
 
@@ -237,9 +240,10 @@ pub fn step(
     k: &[u32],
     v: &mut [u32],
     d: &mut [u8],
+    l: &mut [u8],
 ) -> u32
-    requires { ⌜ Started (now k) (lists (now g) (now h) (now x) (now s) (now v) (now d)) ⌝ }
-    ensures { λ c. ⌜ Handles (stepOf (now (k .entry))) c (lists (now (g .entry)) (now (h .entry)) (now (x .entry)) (now (s .entry)) (now (v .entry)) (now (d .entry))) (lists (now (g .entry)) (now (h .exit)) (now (x .exit)) (now (s .exit)) (now (v .exit)) (now (d .exit))) ⌝ }
+    requires { ⌜ Started (now k) (lists (now g) (now h) (now x) (now s) (now v) (contents (now d) (now l))) ⌝ }
+    ensures { λ c. ⌜ Handles (stepOf (now (k .entry))) c (lists (now (g .entry)) (now (h .entry)) (now (x .entry)) (now (s .entry)) (now (v .entry)) (contents (now (d .entry)) (now (l .entry)))) (lists (now (g .entry)) (now (h .exit)) (now (x .exit)) (now (s .exit)) (now (v .exit)) (contents (now (d .exit)) (now (l .exit)))) ⌝ }
 {
     let f = fetch(h, g, k);
     let code = f.code;
@@ -256,7 +260,7 @@ pub fn step(
     let kind = h[PREFIX];
     let bits = h[BITS];
     use_up(h);
-    let c = exec(h, g, x, s, v, d, decoder::kind(w), z);
+    let c = exec(h, g, x, s, v, d, l, decoder::kind(w), z);
     if c == 0 {
         return answer::DONE;
     }

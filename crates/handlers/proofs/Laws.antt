@@ -19,7 +19,8 @@ use Rattle.isa.specs.declared.VReg.{VReg}
 use Rattle.lanes.specs.declared.Lane.{Lane}
 use Rattle.lanes.specs.Lanes.{writeLanes}
 use Rattle.memory.specs.declared.Loaded.the-variants.{Found, Outside}
-use Rattle.memory.specs.Memory.{Memory, sizeOf, insideOf, loadOf}
+use Rattle.memory.specs.Memory.{sizeOf}
+use Rattle.memory.specs.Memories.{Contents, Memories, insideOne, loadFrom}
 use Rattle.memory.proofs.Laws.{found-inside, outside-is}
 use Rattle.warp.specs.declared.Warp.{Warp}
 use Rattle.warp.specs.Warp.{next}
@@ -41,7 +42,7 @@ pub refused : (i : Instr) (n : ℕ) (a : Lists) → (n ≡ 0 → ⊥) → length
 refused i n a z l r e = record { long = l; room = r; sound = λ o. o; goes = sym (exec-refused i (lentState a) n z e) }
 
 -- the warp alone goes on
-pub moved : (i : Instr) (f : Warp → Warp) (g h x s v d h' x' s' : List ℕ) → Goes f g h x s h' x' s' → first (refusalsOf i (state (warpOf g h x s) v d)) ≡ 0
+pub moved : (i : Instr) (f : Warp → Warp) (g h x s v : List ℕ) (d : Contents) (h' x' s' : List ℕ) → Goes f g h x s h' x' s' → first (refusalsOf i (state (warpOf g h x s) v d)) ≡ 0
     → effectOf i (state (warpOf g h x s) v d) ≡ goes (f (warpOf g h x s)) → Handles (execOf i) 0 (lists g h x s v d) (lists g h' x' s' v d)
 moved i f g h x s v d h' x' s' q e k =
     record {
@@ -52,12 +53,12 @@ moved i f g h x s v d h' x' s' q e k =
     }
 
 -- a value goes to rd
-pub given : (i : Instr) (r : XReg) (y c : ℕ) (g h x s v d h' x' : List ℕ) → c ≡ 0 → Goes (putsIn r y) g h x s h' x' s → first (refusalsOf i (state (warpOf g h x s) v d)) ≡ 0
+pub given : (i : Instr) (r : XReg) (y c : ℕ) (g h x s v : List ℕ) (d : Contents) (h' x' : List ℕ) → c ≡ 0 → Goes (putsIn r y) g h x s h' x' s → first (refusalsOf i (state (warpOf g h x s) v d)) ≡ 0
     → effectOf i (state (warpOf g h x s) v d) ≡ goes (putsIn r y (warpOf g h x s)) → Handles (execOf i) c (lists g h x s v d) (lists g h' x' s v d)
 given i r y c g h x s v d h' x' z q e k = rw z (moved i (putsIn r y) g h x s v d h' x' s q e k)
 
--- the vector file or the data changes, and the PC goes to PC + 4
-module _ (i : Instr) (g h x s v d h' : List ℕ) (z : length h ≡ movingCount) (n : length s ≡ flatCount) (eh : h' ≡ nextIn h) (e : first (refusalsOf i (state (warpOf g h x s) v d)) ≡ 0) where
+-- the vector file or a memory changes, and the PC goes to PC + 4
+module _ (i : Instr) (g h x s v : List ℕ) (d : Contents) (h' : List ℕ) (z : length h ≡ movingCount) (n : length s ≡ flatCount) (eh : h' ≡ nextIn h) (e : first (refusalsOf i (state (warpOf g h x s) v d)) ≡ 0) where
   on-goes : Goes next g h x s h' x s
   on-goes = next-goes g h x s z n h' x next eh refl
 
@@ -73,7 +74,7 @@ module _ (i : Instr) (g h x s v d h' : List ℕ) (z : length h ≡ movingCount) 
             ∙ sym (exec-taken i (state (warpOf g h x s) v d) e ∙ ap (λ (y : Effect). outcome 0 (effect y (state (warpOf g h x s) v d))) k);
       }
 
-  pub data-stored : (d' : List ℕ) → effectOf i (state (warpOf g h x s) v d) ≡ stores d' → Handles (execOf i) 0 (lists g h x s v d) (lists g h' x s v d')
+  pub data-stored : (d' : Contents) → effectOf i (state (warpOf g h x s) v d) ≡ stores d' → Handles (execOf i) 0 (lists g h x s v d) (lists g h' x s v d')
   data-stored d' k =
       record {
         long = on-goes .long;
@@ -129,12 +130,12 @@ first-not a b e = rw e
 -- ---- accesses
 
 -- what a scalar load finds at p, the definition's a
-module _ (k : LoadOp) (m : Memory) (p a : ℕ) (e : p ≡ a) where
-  pub load-inside : (y : ℕ) → Found y ≡ cond (insideOf m (sizeOf k) p) (Found (loadOf k m p)) Outside → (insideOf m (sizeOf k) a ≡ true) × (loadOf k m a ≡ y)
-  load-inside y q = rw (← e) (let z = found-inside (insideOf m (sizeOf k) p) y (loadOf k m p) q in (z .0, sym (z .1)))
+module _ (k : LoadOp) (m : Memories) (p a : ℕ) (e : p ≡ a) where
+  pub load-inside : (y : ℕ) → Found y ≡ cond (insideOne m (sizeOf k) p) (Found (loadFrom k m p)) Outside → (insideOne m (sizeOf k) a ≡ true) × (loadFrom k m a ≡ y)
+  load-inside y q = rw (← e) (let z = found-inside (insideOne m (sizeOf k) p) y (loadFrom k m p) q in (z .0, sym (z .1)))
 
-  pub load-outside : Outside ≡ cond (insideOf m (sizeOf k) p) (Found (loadOf k m p)) Outside → insideOf m (sizeOf k) a ≡ false
-  load-outside q = rw (← e) (outside-is (insideOf m (sizeOf k) p) (loadOf k m p) q)
+  pub load-outside : Outside ≡ cond (insideOne m (sizeOf k) p) (Found (loadFrom k m p)) Outside → insideOne m (sizeOf k) a ≡ false
+  load-outside q = rw (← e) (outside-is (insideOne m (sizeOf k) p) (loadFrom k m p) q)
 
 -- ---- 7: which CSR
 
@@ -175,7 +176,7 @@ csr-range o n rs1 e = go (leb 0x800 n) (leb n 0x80c) refl refl e
 
 -- a CSR word, of either form: by the register a, or by the field i
 pub csr-word :
-    (b : Bool) (o : CsrOp) (r a : XReg) (i n y : ℕ) (g h x s v d h' x' : List ℕ) → true ≡ not (noCsr o n (cond b (a .0) i)) → y ≡ cond b (getD x (a .0) 0) i
+    (b : Bool) (o : CsrOp) (r a : XReg) (i n y : ℕ) (g h x s v : List ℕ) (d : Contents) (h' x' : List ℕ) → true ≡ not (noCsr o n (cond b (a .0) i)) → y ≡ cond b (getD x (a .0) 0) i
     → Goes (csrDone o n r (cond b (a .0) i) y) g h x s h' x' s → Handles (execOf (cond b (I.Csr o r a n) (I.CsrImm o r i n))) 0 (lists g h x s v d) (lists g h' x' s v d)
 unfolding warpOf effectOf refusalsOf
 csr-word true o r a i n y g h x s v d h' x' t ey q =

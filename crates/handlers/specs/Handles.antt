@@ -1,10 +1,11 @@
--- What a function on a running warp's lent words does: g, h, x and s are the warp's words (layout/specs/Words.antt), v is the vector file and d the data.
+-- What a function on a running warp's lent words does: g, h, x and s are the warp's words (layout/specs/Words.antt), v is the vector file and c the bytes of the memories.
 use Prim.Native.Nat.{ℕ}
 use mathlib.Core.Path.{_≡_}
 use mathlib.Core.Bool.{true}
 use mathlib.Core.List.{List}
 use lib.ListN.{length}
 use Rattle.isa.specs.declared.XReg.{XReg}
+use Rattle.memory.specs.Memories.{Contents}
 use Rattle.warp.specs.declared.Warp.{Warp}
 use Rattle.warp.specs.Warp.{writeX, next}
 use Rattle.layout.specs.Words.{movingCount, flatCount, warpOf, soundOf}
@@ -17,10 +18,10 @@ pub record Lists : Type 0 where
   pub scalars : List ℕ
   pub splits : List ℕ
   pub vector : List ℕ
-  pub bytes : List ℕ
+  pub bytes : Contents
 
-abbrev pub lists : List ℕ → List ℕ → List ℕ → List ℕ → List ℕ → List ℕ → Lists
-lists g h x s v d = record { fixed = g; moving = h; scalars = x; splits = s; vector = v; bytes = d }
+abbrev pub lists : List ℕ → List ℕ → List ℕ → List ℕ → List ℕ → Contents → Lists
+lists g h x s v c = record { fixed = g; moving = h; scalars = x; splits = s; vector = v; bytes = c }
 
 abbrev pub lentWarp : Lists → Warp
 lentWarp a = warpOf (a .fixed) (a .moving) (a .scalars) (a .splits)

@@ -8,6 +8,7 @@ use layout::DEPTH;
 use layout::ENDED;
 use layout::FIXED;
 use layout::FLAT;
+use layout::LDS;
 use layout::MOVING;
 use layout::NUMT;
 use layout::PC;
@@ -24,7 +25,7 @@ ghost use Rattle.word.specs.Word.{addOf, extendOf};
 ghost use Rattle.isa.specs.Fields.{fieldsOf, immI, immS, immB, immU, immJ};
 ghost use Rattle.isa.specs.Wide.{xdIn, xs1In, xs2In, ofRegister, csrWide, csrSource};
 ghost use Rattle.isa.specs.Kinds.{condOf, loadOpOf, storeOpOf, csrOpOf};
-ghost use Rattle.memory.specs.Memory.{memory, MemoryOk};
+ghost use Rattle.memory.specs.Memories.{Contents, contents, memories, MemoriesOk};
 ghost use Rattle.warp.specs.Warp.{splitCount, pends};
 ghost use Rattle.warp.specs.Facts.{FixedOk};
 ghost use Rattle.layout.specs.Words.{movingCount, flatCount, pcIn, depthIn, fixedIn};
@@ -79,7 +80,7 @@ pub fn amount(w: u64) -> u32
 // PC + 4 and nothing else.
 pub fn on(h: &mut [u32; MOVING], w: u64) -> u32
     requires { ⌜ length (now h) ≡ movingCount ⌝ }
-    ensures { λ c. ⌜ ((g x s v d : List ℕ) → length s ≡ flatCount → Handles (execOf (Instr.Fence (fieldsOf w .rd) (fieldsOf w .rs1) (immI (fieldsOf w)))) c (lists g (now (h .entry)) x s v d) (lists g (now (h .exit)) x s v d)) ⌝ }
+    ensures { λ c. ⌜ ((g x s v : List ℕ) (d : Contents) → length s ≡ flatCount → Handles (execOf (Instr.Fence (fieldsOf w .rd) (fieldsOf w .rs1) (immI (fieldsOf w)))) c (lists g (now (h .entry)) x s v d) (lists g (now (h .exit)) x s v d)) ⌝ }
 {
     running::next(h);
     answer::DONE
@@ -107,7 +108,7 @@ pub fn pend(kind: u32, h: &mut [u32; MOVING], w: u64) -> u32
 
 pub fn auipc(h: &mut [u32; MOVING], x: &mut [u32; SCALARS], w: u64) -> u32
     requires { ⌜ length (now h) ≡ movingCount ⌝ }
-    ensures { λ c. ⌜ ((g s v d : List ℕ) → length s ≡ flatCount → Handles (execOf (Instr.Auipc (xdIn w) (immU (fieldsOf w)))) c (lists g (now (h .entry)) (now (x .entry)) s v d) (lists g (now (h .exit)) (now (x .exit)) s v d)) ⌝ }
+    ensures { λ c. ⌜ ((g s v : List ℕ) (d : Contents) → length s ≡ flatCount → Handles (execOf (Instr.Auipc (xdIn w) (immU (fieldsOf w)))) c (lists g (now (h .entry)) (now (x .entry)) s v d) (lists g (now (h .exit)) (now (x .exit)) s v d)) ⌝ }
 {
     let y = word::add(h[PC], fields::imm_u(w) * 4096);
     gives(y, h, x, w)
@@ -115,7 +116,7 @@ pub fn auipc(h: &mut [u32; MOVING], x: &mut [u32; SCALARS], w: u64) -> u32
 
 pub fn jal(h: &mut [u32; MOVING], x: &mut [u32; SCALARS], w: u64) -> u32
     requires { ⌜ length (now h) ≡ movingCount ⌝ }
-    ensures { λ c. ⌜ ((g s v d : List ℕ) → length s ≡ flatCount → Handles (execOf (Instr.Jal (xdIn w) (immJ (fieldsOf w)))) c (lists g (now (h .entry)) (now (x .entry)) s v d) (lists g (now (h .exit)) (now (x .exit)) s v d)) ⌝ }
+    ensures { λ c. ⌜ ((g s v : List ℕ) (d : Contents) → length s ≡ flatCount → Handles (execOf (Instr.Jal (xdIn w) (immJ (fieldsOf w)))) c (lists g (now (h .entry)) (now (x .entry)) s v d) (lists g (now (h .exit)) (now (x .exit)) s v d)) ⌝ }
 {
     let p = offset(h, 21, fields::imm_j(w));
     if p % 4 != 0 {
@@ -128,7 +129,7 @@ pub fn jal(h: &mut [u32; MOVING], x: &mut [u32; SCALARS], w: u64) -> u32
 // Bit 0 of the target is cleared first.
 pub fn jalr(h: &mut [u32; MOVING], x: &mut [u32; SCALARS], w: u64) -> u32
     requires { ⌜ length (now h) ≡ movingCount ⌝ }
-    ensures { λ c. ⌜ ((g s v d : List ℕ) → length s ≡ flatCount → Handles (execOf (Instr.Jalr (xdIn w) (xs1In w) (immI (fieldsOf w)))) c (lists g (now (h .entry)) (now (x .entry)) s v d) (lists g (now (h .exit)) (now (x .exit)) s v d)) ⌝ }
+    ensures { λ c. ⌜ ((g s v : List ℕ) (d : Contents) → length s ≡ flatCount → Handles (execOf (Instr.Jalr (xdIn w) (xs1In w) (immI (fieldsOf w)))) c (lists g (now (h .entry)) (now (x .entry)) s v d) (lists g (now (h .exit)) (now (x .exit)) s v d)) ⌝ }
 {
     let a = memory::plain_address(first(x, w), imm_i(w));
     let p = a - a % 2;
@@ -141,7 +142,7 @@ pub fn jalr(h: &mut [u32; MOVING], x: &mut [u32; SCALARS], w: u64) -> u32
 
 pub fn branch(h: &mut [u32; MOVING], x: &[u32; SCALARS], w: u64) -> u32
     requires { ⌜ length (now h) ≡ movingCount ⌝ }
-    ensures { λ c. ⌜ ((g s v d : List ℕ) → length s ≡ flatCount → Handles (execOf (Instr.Branch (condOf (fieldsOf w)) (xs1In w) (xs2In w) (immB (fieldsOf w)))) c (lists g (now (h .entry)) (now (x .entry)) s v d) (lists g (now (h .exit)) (now (x .entry)) s v d)) ⌝ }
+    ensures { λ c. ⌜ ((g s v : List ℕ) (d : Contents) → length s ≡ flatCount → Handles (execOf (Instr.Branch (condOf (fieldsOf w)) (xs1In w) (xs2In w) (immB (fieldsOf w)))) c (lists g (now (h .entry)) (now (x .entry)) s v d) (lists g (now (h .exit)) (now (x .entry)) s v d)) ⌝ }
 {
     if !word::holds(fields::cond(w), first(x, w), second(x, w)) {
         running::next(h);
@@ -157,7 +158,7 @@ pub fn branch(h: &mut [u32; MOVING], x: &[u32; SCALARS], w: u64) -> u32
 
 pub fn setrpc(h: &mut [u32; MOVING], x: &mut [u32; SCALARS], w: u64) -> u32
     requires { ⌜ length (now h) ≡ movingCount ⌝ }
-    ensures { λ c. ⌜ ((g s v d : List ℕ) → length s ≡ flatCount → Handles (execOf (Instr.SetRpc (xdIn w) (xs1In w) (immI (fieldsOf w)))) c (lists g (now (h .entry)) (now (x .entry)) s v d) (lists g (now (h .exit)) (now (x .exit)) s v d)) ⌝ }
+    ensures { λ c. ⌜ ((g s v : List ℕ) (d : Contents) → length s ≡ flatCount → Handles (execOf (Instr.SetRpc (xdIn w) (xs1In w) (immI (fieldsOf w)))) c (lists g (now (h .entry)) (now (x .entry)) s v d) (lists g (now (h .exit)) (now (x .exit)) s v d)) ⌝ }
 {
     running::setrpc(h, x, fields::xd(w), fields::xs1(w), imm_i(w));
     answer::DONE
@@ -204,7 +205,7 @@ fn csr_ok(w: u64) -> bool
 
 pub fn csr(h: &mut [u32; MOVING], g: &[u32; FIXED], x: &mut [u32; SCALARS], w: u64) -> u32
     requires { ⌜ (length (now h) ≡ movingCount) × FixedOk (fixedIn (now g)) ⌝ }
-    ensures { λ c. ⌜ ((s v d : List ℕ) → length s ≡ flatCount → Handles (execOf (csrWide w)) c (lists (now (g .entry)) (now (h .entry)) (now (x .entry)) s v d) (lists (now (g .entry)) (now (h .exit)) (now (x .exit)) s v d)) ⌝ }
+    ensures { λ c. ⌜ ((s v : List ℕ) (d : Contents) → length s ≡ flatCount → Handles (execOf (csrWide w)) c (lists (now (g .entry)) (now (h .entry)) (now (x .entry)) s v d) (lists (now (g .entry)) (now (h .exit)) (now (x .exit)) s v d)) ⌝ }
 {
     if !csr_ok(w) {
         return answer::BAD_CSR;
@@ -225,7 +226,7 @@ pub fn csr(h: &mut [u32; MOVING], g: &[u32; FIXED], x: &mut [u32; SCALARS], w: u
 
 pub fn end(h: &mut [u32; MOVING]) -> u32
     requires { ⌜ length (now h) ≡ movingCount ⌝ }
-    ensures { λ c. ⌜ ((g x s v d : List ℕ) → length s ≡ flatCount → Handles (execOf Instr.EndPrg) c (lists g (now (h .entry)) x s v d) (lists g (now (h .exit)) x s v d)) ⌝ }
+    ensures { λ c. ⌜ ((g x s v : List ℕ) (d : Contents) → length s ≡ flatCount → Handles (execOf Instr.EndPrg) c (lists g (now (h .entry)) x s v d) (lists g (now (h .exit)) x s v d)) ⌝ }
 {
     if h[DEPTH] != 0 {
         return answer::SPLIT_OPEN;
@@ -237,7 +238,7 @@ pub fn end(h: &mut [u32; MOVING]) -> u32
 
 pub fn barrier(h: &mut [u32; MOVING], w: u64) -> u32
     requires { ⌜ length (now h) ≡ movingCount ⌝ }
-    ensures { λ c. ⌜ ((g x s v d : List ℕ) → length s ≡ flatCount → Handles (execOf (Instr.Barrier (fieldsOf w .rs1))) c (lists g (now (h .entry)) x s v d) (lists g (now (h .exit)) x s v d)) ⌝ }
+    ensures { λ c. ⌜ ((g x s v : List ℕ) (d : Contents) → length s ≡ flatCount → Handles (execOf (Instr.Barrier (fieldsOf w .rs1))) c (lists g (now (h .entry)) x s v d) (lists g (now (h .exit)) x s v d)) ⌝ }
 {
     if h[DEPTH] != 0 {
         return answer::SPLIT_OPEN;
@@ -250,7 +251,7 @@ pub fn barrier(h: &mut [u32; MOVING], w: u64) -> u32
 
 pub fn join(h: &mut [u32; MOVING], s: &mut [u32; FLAT]) -> u32
     requires { ⌜ (length (now h) ≡ movingCount) × (length (now s) ≡ flatCount) × (depthIn (now h) ≤ splitCount) ⌝ }
-    ensures { λ c. ⌜ ((g x v d : List ℕ) → Handles (execOf Instr.Join) c (lists g (now (h .entry)) x (now (s .entry)) v d) (lists g (now (h .exit)) x (now (s .exit)) v d)) ⌝ }
+    ensures { λ c. ⌜ ((g x v : List ℕ) (d : Contents) → Handles (execOf Instr.Join) c (lists g (now (h .entry)) x (now (s .entry)) v d) (lists g (now (h .exit)) x (now (s .exit)) v d)) ⌝ }
 {
     running::join(h, s);
     answer::DONE
@@ -263,13 +264,14 @@ pub fn load(
     g: &[u32; FIXED],
     x: &mut [u32; SCALARS],
     d: &[u8],
+    l: &[u8],
     w: u64,
 ) -> u32
-    requires { ⌜ (length (now h) ≡ movingCount) × MemoryOk (memory (fixedIn (now g) .dataBase) (now d)) ⌝ }
-    ensures { λ c. ⌜ ((s v : List ℕ) → length s ≡ flatCount → Handles (execOf (Instr.Load (loadOpOf (fieldsOf w)) (xdIn w) (xs1In w) (immI (fieldsOf w)))) c (lists (now (g .entry)) (now (h .entry)) (now (x .entry)) s v (now (d .entry))) (lists (now (g .entry)) (now (h .exit)) (now (x .exit)) s v (now (d .entry)))) ⌝ }
+    requires { ⌜ (length (now h) ≡ movingCount) × MemoriesOk (memories (fixedIn (now g) .dataBase) (fixedIn (now g) .lds) (contents (now d) (now l))) ⌝ }
+    ensures { λ c. ⌜ ((s v : List ℕ) → length s ≡ flatCount → Handles (execOf (Instr.Load (loadOpOf (fieldsOf w)) (xdIn w) (xs1In w) (immI (fieldsOf w)))) c (lists (now (g .entry)) (now (h .entry)) (now (x .entry)) s v (contents (now (d .entry)) (now (l .entry)))) (lists (now (g .entry)) (now (h .exit)) (now (x .exit)) s v (contents (now (d .entry)) (now (l .entry))))) ⌝ }
 {
     let p = memory::plain_address(first(x, w), imm_i(w));
-    let found = memory::scalar_load(d, g[DATABASE], fields::load_op(w), p);
+    let found = memory::scalar_load(d, g[DATABASE], l, g[LDS], fields::load_op(w), p);
     match found {
         Loaded::Found(y) => gives(y, h, x, w),
         Loaded::Outside => answer::OUTSIDE,
@@ -281,13 +283,22 @@ pub fn store(
     g: &[u32; FIXED],
     x: &[u32; SCALARS],
     d: &mut [u8],
+    l: &mut [u8],
     w: u64,
 ) -> u32
-    requires { ⌜ (length (now h) ≡ movingCount) × MemoryOk (memory (fixedIn (now g) .dataBase) (now d)) ⌝ }
-    ensures { λ c. ⌜ ((s v : List ℕ) → length s ≡ flatCount → Handles (execOf (Instr.Store (storeOpOf (fieldsOf w)) (xs1In w) (xs2In w) (immS (fieldsOf w)))) c (lists (now (g .entry)) (now (h .entry)) (now (x .entry)) s v (now (d .entry))) (lists (now (g .entry)) (now (h .exit)) (now (x .entry)) s v (now (d .exit)))) ⌝ }
+    requires { ⌜ (length (now h) ≡ movingCount) × MemoriesOk (memories (fixedIn (now g) .dataBase) (fixedIn (now g) .lds) (contents (now d) (now l))) ⌝ }
+    ensures { λ c. ⌜ ((s v : List ℕ) → length s ≡ flatCount → Handles (execOf (Instr.Store (storeOpOf (fieldsOf w)) (xs1In w) (xs2In w) (immS (fieldsOf w)))) c (lists (now (g .entry)) (now (h .entry)) (now (x .entry)) s v (contents (now (d .entry)) (now (l .entry)))) (lists (now (g .entry)) (now (h .exit)) (now (x .entry)) s v (contents (now (d .exit)) (now (l .exit))))) ⌝ }
 {
     let p = memory::plain_address(first(x, w), imm_s(w));
-    if memory::scalar_store(d, g[DATABASE], fields::store_op(w), p, second(x, w)) {
+    if memory::scalar_store(
+        d,
+        g[DATABASE],
+        l,
+        g[LDS],
+        fields::store_op(w),
+        p,
+        second(x, w),
+    ) {
         running::next(h);
         return answer::DONE;
     }

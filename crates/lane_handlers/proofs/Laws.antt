@@ -23,12 +23,13 @@ use Rattle.lanes.specs.Lanes.{lanesMax, laneOf, writeLanes}
 use Rattle.lanes.specs.Rows.{RowOf, at}
 use Rattle.memory.specs.declared.Private.{Private}
 use Rattle.memory.specs.Address.{laneAddress}
-use Rattle.memory.specs.Memory.{Memory, memory, sizeOf, widthOf, loadOf}
+use Rattle.memory.specs.Memory.{sizeOf, widthOf}
+use Rattle.memory.specs.Memories.{Contents, Memories, insideOne, loadFrom}
 use Rattle.memory.specs.LaneAccess.{allInside, allInWord, storeLanes}
 use Rattle.memory.proofs.Laws.{inside-only, load-only, store-only}
 use Rattle.layout.specs.Words.{movingCount, flatCount, maskIn, fixedIn, warpOf}
 use Rattle.running.specs.Goes.{nextIn}
-use Rattle.definition.specs.State.{state, privateIn}
+use Rattle.definition.specs.State.{state, memoriesIn, privateIn}
 use Rattle.definition.proofs.Tests.{crosses-first, crosses-not}
 use Rattle.definition.specs.Refuse.{astray, refusalsOf}
 use Rattle.definition.specs.Exec.{effectOf}
@@ -58,7 +59,7 @@ module _ (s : Space) (off w : ℕ) (g v : List ℕ) {n : ℕ} {b : VReg} (en : n
   row-told o ep r = rw (en, ep, eb) at r
 
 -- the boundary test t of an access of z bytes
-module _ (s : Space) (size off mask w : ℕ) (g v d : List ℕ) {z : ℕ} {t : Bool} (ez : z ≡ size) (q : t ≡ not (inWords s z off mask w g v)) where
+module _ (s : Space) (size off mask w : ℕ) (g v : List ℕ) (d : Contents) {z : ℕ} {t : Bool} (ez : z ≡ size) (q : t ≡ not (inWords s z off mask w g v)) where
   pub crossed : t ≡ true → Tested 14 s size off mask w g v d
   unfolding warpOf
   crossed e h x r eh = sym (crosses-first s size (vs1In w) off (state (warpOf g h x r) v d) (rw (eh, ← ez) (sym q ∙ e)))
@@ -67,14 +68,14 @@ module _ (s : Space) (size off mask w : ℕ) (g v d : List ℕ) {z : ℕ} {t : B
   not-crossed e = rw (← ez) (not-false (inWords s z off mask w g v) (sym q ∙ e))
 
 -- what is written where the access is made
-made-so : (t : Bool) (c : ℕ) (new old u : List ℕ) → c ≡ first (9 ⇒ not t ∷ []) → u ≡ cond t new old → u ≡ cond (eqb c 0) new old
+made-so : {A : Type 0} (t : Bool) (c : ℕ) (new old u : A) → c ≡ first (9 ⇒ not t ∷ []) → u ≡ cond t new old → u ≡ cond (eqb c 0) new old
 made-so true c new old u k e = rw k e
 made-so false c new old u k e = rw k e
 
 -- no access crosses, and the addresses stand in a row o; the code has n threads
-module _ (s : Space) (off mask w : ℕ) (g v d o : List ℕ) (t : Bool) {n c : ℕ} (en : n ≡ fixedIn g .numt) (r : RowOf (fixedIn g .numt) (addressAt s off w g v) o) (m : c ≡ first (9 ⇒ not t ∷ [])) where
-  abbrev Data : Memory
-  Data = memory (fixedIn g .dataBase) d
+module _ (s : Space) (off mask w : ℕ) (g v : List ℕ) (d : Contents) (o : List ℕ) (t : Bool) {n c : ℕ} (en : n ≡ fixedIn g .numt) (r : RowOf (fixedIn g .numt) (addressAt s off w g v) o) (m : c ≡ first (9 ⇒ not t ∷ [])) where
+  abbrev Both : Memories
+  Both = memoriesIn (fixedIn g) d
 
   abbrev At : Lane → ℕ
   At = addressAt s off w g v
@@ -82,32 +83,32 @@ module _ (s : Space) (off mask w : ℕ) (g v d o : List ℕ) (t : Bool) {n c : �
   there : (l : Lane) → l .0 < n → bit mask l ≡ true → at o l ≡ At l
   there l h i = r .1 l (rw en at h)
 
-  nine : (size : ℕ) → inWords s size off mask w g v ≡ true → t ≡ allInside n (bit mask) Data size (at o) → Tested c s size off mask w g v d
+  nine : (size : ℕ) → inWords s size off mask w g v ≡ true → t ≡ allInside n (bit mask) (insideOne Both size) (at o) → Tested c s size off mask w g v d
   unfolding warpOf
   nine size e q h x y eh =
       let a = vs1In w in
       let M = state (warpOf g h x y) v d in
-      let inside : t ≡ allInside (fixedIn g .numt) (bit (maskIn h)) Data size At = rw eh (rw en at (q ∙ inside-only n (bit mask) Data (at o) At there size)) in
+      let inside : t ≡ allInside (fixedIn g .numt) (bit (maskIn h)) (insideOne Both size) At = rw eh (rw en at (q ∙ inside-only n (bit mask) Both (at o) At there size)) in
       m ∙ ap (λ (b : Bool). first (9 ⇒ not b ∷ [])) inside ∙ sym (crosses-not s size a off M (rw (eh, e)))
 
   pub loaded-row : {k : LoadOp} {rd : VReg} {v' : List ℕ} → k ≡ loadOpOf (fieldsOf w) → rd ≡ vdIn w → inWords s (sizeOf k) off mask w g v ≡ true
-      → (t ≡ allInside n (bit mask) Data (sizeOf k) (at o)) × (v' ≡ cond t (writeLanes n (bit mask) rd (λ l. loadOf k Data (at o l)) v) v) → LaneLoad c s off mask w g v d v'
+      → (t ≡ allInside n (bit mask) (insideOne Both (sizeOf k)) (at o)) × (v' ≡ cond t (writeLanes n (bit mask) rd (λ l. loadFrom k Both (at o l)) v) v) → LaneLoad c s off mask w g v d v'
   loaded-row {k} {rd} ek ed e q =
       record {
         code = rw ek at (nine (sizeOf k) e (q .0));
-        file = made-so t c _ v _ m (rw (en, ek, ed) at (q .1 ∙ ap (λ (u : List ℕ). cond t u v) (load-only n (bit mask) Data (at o) At there k rd v)));
+        file = made-so t c _ v _ m (rw (en, ek, ed) at (q .1 ∙ ap (λ (u : List ℕ). cond t u v) (load-only n (bit mask) Both (at o) At there k rd v)));
       }
 
-  pub stored-row : {k : StoreOp} {rs : VReg} {d' : List ℕ} → k ≡ laneStoreOpOf (fieldsOf w) → rs ≡ vs2In w → inWords s (widthOf k) off mask w g v ≡ true
-      → (t ≡ allInside n (bit mask) Data (widthOf k) (at o)) × (d' ≡ cond t (storeLanes n (bit mask) k (at o) (laneOf v rs) Data) d) → LaneStore c s off mask w g v d d'
+  pub stored-row : {k : StoreOp} {rs : VReg} {d' : Contents} → k ≡ laneStoreOpOf (fieldsOf w) → rs ≡ vs2In w → inWords s (widthOf k) off mask w g v ≡ true
+      → (t ≡ allInside n (bit mask) (insideOne Both (widthOf k)) (at o)) × (d' ≡ cond t (storeLanes n (bit mask) k (at o) (laneOf v rs) Both) d) → LaneStore c s off mask w g v d d'
   stored-row {k} {rs} ek es e q =
       record {
         code = rw ek at (nine (widthOf k) e (q .0));
-        bytes = made-so t c _ d _ m (rw (en, ek, es) at (q .1 ∙ ap (λ (u : List ℕ). cond t u d) (store-only n (bit mask) Data (at o) At there k (laneOf v rs) (laneOf v rs) (λ l h i. refl))));
+        bytes = made-so t c _ d _ m (rw (en, ek, es) at (q .1 ∙ ap (λ (u : Contents). cond t u d) (store-only n (bit mask) Both (at o) At there k (laneOf v rs) (laneOf v rs) (λ l h i. refl))));
       }
 
--- an access by lanes is refused or done: c is its answer, and `put` takes the moving words and the list that it changes
-module _ (i : Instr) (put : List ℕ → List ℕ → Lists) (c : ℕ) (h h' new old u : List ℕ) (z : length (put h old .moving) ≡ movingCount) (n : length (put h old .splits) ≡ flatCount) where
+-- an access by lanes is refused or done: c is its answer, and `put` takes the moving words and what it changes
+module _ {A : Type 0} (i : Instr) (put : List ℕ → A → Lists) (c : ℕ) (h h' : List ℕ) (new old u : A) (z : length (put h old .moving) ≡ movingCount) (n : length (put h old .splits) ≡ flatCount) where
   lane-arm : (a : ℕ) → a ≡ first (refusalsOf i (lentState (put h old))) → (c ≡ a) × (h' ≡ cond (eqb a 0) (nextIn h) h) → u ≡ cond (eqb a 0) new old
       → (first (refusalsOf i (lentState (put h old))) ≡ 0 → Handles (execOf i) 0 (put h old) (put (nextIn h) new)) → Handles (execOf i) c (put h old) (put h' u)
   lane-arm a rows o eu done = go (eqb a 0) refl (o .1) eu
@@ -116,7 +117,7 @@ module _ (i : Instr) (put : List ℕ → List ℕ → Lists) (c : ℕ) (h h' new
       go true e eh e' = rw (o .0, eqb-true a 0 e, eh, e') (done (sym rows ∙ eqb-true a 0 e))
       go false e eh e' = rw (o .0, eh, e') (refused i a (put h old) (eqb-false a 0 e) z n (sym rows))
 
-module _ (a : ℕ) (s : Space) (off w c : ℕ) (g h x r v d h' : List ℕ) (z : length h ≡ movingCount) (n : length r ≡ flatCount)
+module _ (a : ℕ) (s : Space) (off w c : ℕ) (g h x r v : List ℕ) (d : Contents) (h' : List ℕ) (z : length h ≡ movingCount) (n : length r ≡ flatCount)
     (o : (c ≡ a) × (h' ≡ cond (eqb a 0) (nextIn h) h)) where
   abbrev F : Fields
   F = fieldsOf w
@@ -129,7 +130,7 @@ module _ (a : ℕ) (s : Space) (off w c : ℕ) (g h x r v d h' : List ℕ) (z : 
       lane-arm i (λ h v. lists g h x r v d) c h h' _ v v' z n a (q .code h x r refl) o (q .file)
       (λ e. file-written i g h x r v d (nextIn h) z n refl e (bit (maskIn h)) (vdIn w) _ _ refl refl)
 
-  pub lane-store-arm : (d' : List ℕ) → LaneStore a s off (maskIn h) w g v d d'
+  pub lane-store-arm : (d' : Contents) → LaneStore a s off (maskIn h) w g v d d'
       → Handles (execOf (I.VStore s (laneStoreOpOf F) (vs1In w) (vs2In w) off)) c (lists g h x r v d) (lists g h' x r v d')
   unfolding warpOf effectOf refusalsOf
   lane-store-arm d' q =

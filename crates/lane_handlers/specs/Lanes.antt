@@ -13,12 +13,13 @@ use Rattle.isa.specs.Kinds.{loadOpOf, laneStoreOpOf}
 use Rattle.lanes.specs.declared.Lane.{Lane}
 use Rattle.lanes.specs.Mask.{bit}
 use Rattle.lanes.specs.Lanes.{fileWords, laneOf, writeLanes}
-use Rattle.memory.specs.Memory.{memory, sizeOf, widthOf, loadOf}
+use Rattle.memory.specs.Memory.{sizeOf, widthOf}
+use Rattle.memory.specs.Memories.{Contents, loadFrom}
 use Rattle.memory.specs.Address.{laneAddress}
 use Rattle.memory.specs.LaneAccess.{allInWord, storeLanes}
 use Rattle.warp.specs.Facts.{FixedOk}
 use Rattle.layout.specs.Words.{movingCount, maskIn, fixedIn, warpOf}
-use Rattle.definition.specs.State.{state, privateIn}
+use Rattle.definition.specs.State.{state, memoriesIn, privateIn}
 use Rattle.definition.specs.Refuse.{accessTests}
 
 -- ---- what a handler of lanes asks
@@ -44,13 +45,13 @@ abbrev pub inWords : Space → ℕ → ℕ → ℕ → ℕ → List ℕ → List
 inWords s n off mask w g v = allInWord (fixedIn g .numt) (bit mask) s n (laneOf v (vs1In w)) off
 
 -- c is the number of the definition's tests of an access of n bytes, whatever the warp is beside its fixed values and its mask
-abbrev pub Tested : ℕ → Space → ℕ → ℕ → ℕ → ℕ → List ℕ → List ℕ → List ℕ → Type 0
+abbrev pub Tested : ℕ → Space → ℕ → ℕ → ℕ → ℕ → List ℕ → List ℕ → Contents → Type 0
 Tested c s n off mask w g v d = (h x r : List ℕ) → maskIn h ≡ mask → c ≡ first (accessTests s n (vs1In w) off (state (warpOf g h x r) v d))
 
-pub record LaneLoad (c : ℕ) (s : Space) (off mask w : ℕ) (g v d v' : List ℕ) : Type 0 where
+pub record LaneLoad (c : ℕ) (s : Space) (off mask w : ℕ) (g v : List ℕ) (d : Contents) (v' : List ℕ) : Type 0 where
   pub code : Tested c s (sizeOf (loadOpOf (fieldsOf w))) off mask w g v d
-  pub file : v' ≡ cond (eqb c 0) (writeLanes (fixedIn g .numt) (bit mask) (vdIn w) (λ l. loadOf (loadOpOf (fieldsOf w)) (memory (fixedIn g .dataBase) d) (addressAt s off w g v l)) v) v
+  pub file : v' ≡ cond (eqb c 0) (writeLanes (fixedIn g .numt) (bit mask) (vdIn w) (λ l. loadFrom (loadOpOf (fieldsOf w)) (memoriesIn (fixedIn g) d) (addressAt s off w g v l)) v) v
 
-pub record LaneStore (c : ℕ) (s : Space) (off mask w : ℕ) (g v d d' : List ℕ) : Type 0 where
+pub record LaneStore (c : ℕ) (s : Space) (off mask w : ℕ) (g v : List ℕ) (d d' : Contents) : Type 0 where
   pub code : Tested c s (widthOf (laneStoreOpOf (fieldsOf w))) off mask w g v d
-  pub bytes : d' ≡ cond (eqb c 0) (storeLanes (fixedIn g .numt) (bit mask) (laneStoreOpOf (fieldsOf w)) (addressAt s off w g v) (laneOf v (vs2In w)) (memory (fixedIn g .dataBase) d)) d
+  pub bytes : d' ≡ cond (eqb c 0) (storeLanes (fixedIn g .numt) (bit mask) (laneStoreOpOf (fieldsOf w)) (addressAt s off w g v) (laneOf v (vs2In w)) (memoriesIn (fixedIn g) d)) d

@@ -12,6 +12,7 @@ use lanes::Operand;
 use layout::DATABASE;
 use layout::FIXED;
 use layout::FLAT;
+use layout::LDS;
 use layout::MASK;
 use layout::MOVING;
 use layout::NUMT;
@@ -34,13 +35,13 @@ ghost use Rattle.isa.specs.Number.{opAt};
 ghost use Rattle.isa.specs.Kinds.{condOf, laneOpWord, opLimit};
 ghost use Rattle.isa.specs.Kinds.{sourceIn};
 ghost use Rattle.lanes.specs.Rows.{OperandOk, RowOf};
-ghost use Rattle.memory.specs.Memory.{memory, MemoryOk};
+ghost use Rattle.memory.specs.Memories.{Contents, contents, MemoriesOk};
 ghost use Rattle.memory.specs.Address.{offsetLimit};
 ghost use Rattle.lanes.specs.Lanes.{lanesMax, fileWords};
 ghost use Rattle.warp.specs.Facts.{FixedOk};
 ghost use Rattle.layout.specs.Words.{flatCount, maskIn, depthIn, fixedIn, warpOf};
 ghost use Rattle.running.specs.Goes.{nextIn};
-ghost use Rattle.definition.specs.State.{state, privateIn};
+ghost use Rattle.definition.specs.State.{state, memoriesIn, privateIn};
 ghost use Rattle.definition.specs.Exec.{sourceOf};
 ghost use Rattle.definition.specs.Step.{execOf};
 ghost use Rattle.handlers.specs.Handles.{lists, Handles};
@@ -60,7 +61,7 @@ fn vi_immediate(w: u64) -> u32
 
 // A vector word's last operand, an immediate sign-extended whatever the operation: a shift looks at the low five bits only.
 fn operand(x: &[u32; SCALARS], w: u64) -> Operand
-    ensures { λ b. ⌜ OperandOk b × ((g h s v d : List ℕ) → b ≡ sourceOf extendOf (onSource (numbersIn w) (sourceIn (fieldsOf w))) (state (warpOf g h (now (x .entry)) s) v d)) ⌝ }
+    ensures { λ b. ⌜ OperandOk b × ((g h s v : List ℕ) (d : Contents) → b ≡ sourceOf extendOf (onSource (numbersIn w) (sourceIn (fieldsOf w))) (state (warpOf g h (now (x .entry)) s) v d)) ⌝ }
 {
     let funct3 = fields::funct3(w);
     match funct3 {
@@ -93,7 +94,7 @@ pub fn vector(
     w: u64,
 ) -> u32
     requires { ⌜ Lanes (now g) (now h) (now v) ⌝ }
-    ensures { λ c. ⌜ ((s d : List ℕ) → length s ≡ flatCount → Handles (execOf (onFields (numbersIn w) (laneOpWord (opAt (kind % opLimit)) (fieldsOf w)))) c (lists (now (g .entry)) (now (h .entry)) (now (x .entry)) s (now (v .entry)) d) (lists (now (g .entry)) (now (h .exit)) (now (x .entry)) s (now (v .exit)) d)) ⌝ }
+    ensures { λ c. ⌜ ((s : List ℕ) (d : Contents) → length s ≡ flatCount → Handles (execOf (onFields (numbersIn w) (laneOpWord (opAt (kind % opLimit)) (fieldsOf w)))) c (lists (now (g .entry)) (now (h .entry)) (now (x .entry)) s (now (v .entry)) d) (lists (now (g .entry)) (now (h .exit)) (now (x .entry)) s (now (v .exit)) d)) ⌝ }
 {
     let b = operand(x, w);
     let op = fields::op_at(kind % kinds::OPS);
@@ -118,7 +119,7 @@ pub fn vmove(
     w: u64,
 ) -> u32
     requires { ⌜ Lanes (now g) (now h) (now v) ⌝ }
-    ensures { λ c. ⌜ ((s d : List ℕ) → length s ≡ flatCount → Handles (execOf (Instr.VMove (vdIn w) (onSource (numbersIn w) (sourceIn (fieldsOf w))))) c (lists (now (g .entry)) (now (h .entry)) (now (x .entry)) s (now (v .entry)) d) (lists (now (g .entry)) (now (h .exit)) (now (x .entry)) s (now (v .exit)) d)) ⌝ }
+    ensures { λ c. ⌜ ((s : List ℕ) (d : Contents) → length s ≡ flatCount → Handles (execOf (Instr.VMove (vdIn w) (onSource (numbersIn w) (sourceIn (fieldsOf w))))) c (lists (now (g .entry)) (now (h .entry)) (now (x .entry)) s (now (v .entry)) d) (lists (now (g .entry)) (now (h .exit)) (now (x .entry)) s (now (v .exit)) d)) ⌝ }
 {
     let b = operand(x, w);
     lanes::move_lanes(v, h[MASK], threads(g), fields::vd(w), b);
@@ -135,7 +136,7 @@ pub fn vmove_sx(
     w: u64,
 ) -> u32
     requires { ⌜ Lanes (now g) (now h) (now v) ⌝ }
-    ensures { λ c. ⌜ ((s d : List ℕ) → length s ≡ flatCount → Handles (execOf (Instr.VMoveSX (vdIn w) (xs1In w))) c (lists (now (g .entry)) (now (h .entry)) (now (x .entry)) s (now (v .entry)) d) (lists (now (g .entry)) (now (h .exit)) (now (x .entry)) s (now (v .exit)) d)) ⌝ }
+    ensures { λ c. ⌜ ((s : List ℕ) (d : Contents) → length s ≡ flatCount → Handles (execOf (Instr.VMoveSX (vdIn w) (xs1In w))) c (lists (now (g .entry)) (now (h .entry)) (now (x .entry)) s (now (v .entry)) d) (lists (now (g .entry)) (now (h .exit)) (now (x .entry)) s (now (v .exit)) d)) ⌝ }
 {
     let y = first(x, w);
     lanes::move_lanes(v, h[MASK], threads(g), fields::vd(w), Operand::Word(y));
@@ -145,7 +146,7 @@ pub fn vmove_sx(
 
 pub fn vid(h: &mut [u32; MOVING], g: &[u32; FIXED], v: &mut [u32], w: u64) -> u32
     requires { ⌜ Lanes (now g) (now h) (now v) ⌝ }
-    ensures { λ c. ⌜ ((x s d : List ℕ) → length s ≡ flatCount → Handles (execOf (Instr.Vid (vdIn w))) c (lists (now (g .entry)) (now (h .entry)) x s (now (v .entry)) d) (lists (now (g .entry)) (now (h .exit)) x s (now (v .exit)) d)) ⌝ }
+    ensures { λ c. ⌜ ((x s : List ℕ) (d : Contents) → length s ≡ flatCount → Handles (execOf (Instr.Vid (vdIn w))) c (lists (now (g .entry)) (now (h .entry)) x s (now (v .entry)) d) (lists (now (g .entry)) (now (h .exit)) x s (now (v .exit)) d)) ⌝ }
 {
     lanes::id_lanes(v, h[MASK], threads(g), fields::vd(w));
     running::next(h);
@@ -161,7 +162,7 @@ pub fn vmove_xs(
     w: u64,
 ) -> u32
     requires { ⌜ Lanes (now g) (now h) (now v) ⌝ }
-    ensures { λ c. ⌜ ((s d : List ℕ) → length s ≡ flatCount → Handles (execOf (Instr.VMoveXS (xdIn w) (vs2In w))) c (lists (now (g .entry)) (now (h .entry)) (now (x .entry)) s (now (v .entry)) d) (lists (now (g .entry)) (now (h .exit)) (now (x .exit)) s (now (v .entry)) d)) ⌝ }
+    ensures { λ c. ⌜ ((s : List ℕ) (d : Contents) → length s ≡ flatCount → Handles (execOf (Instr.VMoveXS (xdIn w) (vs2In w))) c (lists (now (g .entry)) (now (h .entry)) (now (x .entry)) s (now (v .entry)) d) (lists (now (g .entry)) (now (h .exit)) (now (x .exit)) s (now (v .entry)) d)) ⌝ }
 {
     let held = lanes::uniform(v, h[MASK], threads(g), fields::vs2(w));
     if held.uniform {
@@ -178,7 +179,7 @@ pub fn vbranch(
     w: u64,
 ) -> u32
     requires { ⌜ Lanes (now g) (now h) (now v) × (length (now s) ≡ flatCount) × (depthIn (now h) + ones (maskIn (now h)) ≤ lanesMax) ⌝ }
-    ensures { λ c. ⌜ ((x d : List ℕ) → Handles (execOf (Instr.VBranch (condOf (fieldsOf w)) (vs1In w) (vs2In w) (immB (fieldsOf w)))) c (lists (now (g .entry)) (now (h .entry)) x (now (s .entry)) (now (v .entry)) d) (lists (now (g .entry)) (now (h .exit)) x (now (s .exit)) (now (v .entry)) d)) ⌝ }
+    ensures { λ c. ⌜ ((x : List ℕ) (d : Contents) → Handles (execOf (Instr.VBranch (condOf (fieldsOf w)) (vs1In w) (vs2In w) (immB (fieldsOf w)))) c (lists (now (g .entry)) (now (h .entry)) x (now (s .entry)) (now (v .entry)) d) (lists (now (g .entry)) (now (h .exit)) x (now (s .exit)) (now (v .entry)) d)) ⌝ }
 {
     let e = lanes::else_mask(
         v,
@@ -240,10 +241,11 @@ pub fn vload(
     g: &[u32; FIXED],
     v: &mut [u32],
     d: &[u8],
+    l: &[u8],
     w: u64,
 ) -> u32
-    requires { ⌜ LanesAt mask (now g) (now v) × MemoryOk (memory (fixedIn (now g) .dataBase) (now d)) × (off < offsetLimit space) ⌝ }
-    ensures { λ c. ⌜ LaneLoad c space off mask w (now (g .entry)) (now (v .entry)) (now (d .entry)) (now (v .exit)) ⌝ }
+    requires { ⌜ LanesAt mask (now g) (now v) × MemoriesOk (memoriesIn (fixedIn (now g)) (contents (now d) (now l))) × (off < offsetLimit space) ⌝ }
+    ensures { λ c. ⌜ LaneLoad c space off mask w (now (g .entry)) (now (v .entry)) (contents (now (d .entry)) (now (l .entry))) (now (v .exit)) ⌝ }
 {
     let k = fields::load_op(w);
     if some_crosses(space, off, mask, g, v, w, memory::size(k)) {
@@ -251,7 +253,9 @@ pub fn vload(
     }
     let o = lane_addresses(space, off, g, v, w);
     let n = threads(g);
-    inside_number(lane_memory::load_lanes(v, mask, n, k, d, g[DATABASE], &o, fields::vd(w)))
+    let base = g[DATABASE];
+    let near = g[LDS];
+    inside_number(lane_memory::load_lanes(v, mask, n, k, d, base, l, near, &o, fields::vd(w)))
 }
 
 pub fn vstore(
@@ -261,10 +265,11 @@ pub fn vstore(
     g: &[u32; FIXED],
     v: &[u32],
     d: &mut [u8],
+    l: &mut [u8],
     w: u64,
 ) -> u32
-    requires { ⌜ LanesAt mask (now g) (now v) × MemoryOk (memory (fixedIn (now g) .dataBase) (now d)) × (off < offsetLimit space) ⌝ }
-    ensures { λ c. ⌜ LaneStore c space off mask w (now (g .entry)) (now (v .entry)) (now (d .entry)) (now (d .exit)) ⌝ }
+    requires { ⌜ LanesAt mask (now g) (now v) × MemoriesOk (memoriesIn (fixedIn (now g)) (contents (now d) (now l))) × (off < offsetLimit space) ⌝ }
+    ensures { λ c. ⌜ LaneStore c space off mask w (now (g .entry)) (now (v .entry)) (contents (now (d .entry)) (now (l .entry))) (contents (now (d .exit)) (now (l .exit))) ⌝ }
 {
     let k = fields::lane_store_op(w);
     if some_crosses(space, off, mask, g, v, w, memory::width(k)) {
@@ -272,7 +277,9 @@ pub fn vstore(
     }
     let o = lane_addresses(space, off, g, v, w);
     let n = threads(g);
-    inside_number(lane_memory::store_lanes(v, mask, n, k, d, g[DATABASE], &o, fields::vs2(w)))
+    let base = g[DATABASE];
+    let near = g[LDS];
+    inside_number(lane_memory::store_lanes(v, mask, n, k, d, base, l, near, &o, fields::vs2(w)))
 }
 
 // The PC goes to PC + 4 where the access was made.

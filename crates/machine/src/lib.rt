@@ -9,6 +9,7 @@ ghost use Prim.Native.Nat.{_<_};
 ghost use lib.ListN.{length, replicate};
 ghost use Rattle.answer.specs.Answer.{numberOf};
 ghost use Rattle.lanes.specs.Lanes.{fileWords};
+ghost use Rattle.memory.specs.Memories.{alone};
 ghost use Rattle.warp.specs.Warp.{answered};
 ghost use Rattle.definition.specs.State.{state, outcome};
 ghost use Rattle.definition.specs.Step.{stepOf};
@@ -40,7 +41,7 @@ fn clear(vector: &mut [u32])
     }
 }
 
-fn launched(l: Launch) -> Warp
+pub fn launched(l: Launch) -> Warp
     ensures { λ w. ⌜ w ≡ launchedOf l ⌝ }
 {
     let f = l.fixed;
@@ -62,10 +63,11 @@ fn launched(l: Launch) -> Warp
 
 // A warp at its entry PC, with the vector file cleared.
 pub fn launch(l: Launch, kernel: &[u32], vector: &mut [u32], bytes: &[u8]) -> Left
-    ensures { λ r. ⌜ outcome (numberOf (r .answer)) (state (r .warp) (now (vector .exit)) (now (bytes .entry))) ≡ launchOf (now (kernel .entry)) l (now (vector .entry)) (now (bytes .entry)) ⌝ }
+    ensures { λ r. ⌜ outcome (numberOf (r .answer)) (state (r .warp) (now (vector .exit)) (alone (now (bytes .entry)))) ≡ launchOf (now (kernel .entry)) l (now (vector .entry)) (alone (now (bytes .entry))) ⌝ }
 {
+    let none = [0u8; 0];
     let f = l.fixed;
-    if !drive::runs_ok(f, kernel, vector, bytes) {
+    if !drive::runs_ok(f, kernel, vector, bytes, &none) {
         return Left {
             answer: Answer::Refused(Refusal::Size),
             warp: warp::zero_warp(),
@@ -98,10 +100,11 @@ fn refused_run(r: Refusal, w: Warp) -> RunLeft
 
 // At most `budget` steps, to the first refusal. The warp is tested and taken apart once.
 pub fn run(w: Warp, kernel: &[u32], vector: &mut [u32], bytes: &mut [u8], budget: u32) -> RunLeft
-    ensures { λ r. ⌜ (budget < budgetLimit) × (ran (r .steps) (outcome (numberOf (r .answer)) (state (r .warp) (now (vector .exit)) (now (bytes .exit)))) ≡ runOf (now (kernel .entry)) budget (state w (now (vector .entry)) (now (bytes .entry)))) ⌝ }
+    ensures { λ r. ⌜ (budget < budgetLimit) × (ran (r .steps) (outcome (numberOf (r .answer)) (state (r .warp) (now (vector .exit)) (alone (now (bytes .exit))))) ≡ runOf (now (kernel .entry)) budget (state w (now (vector .entry)) (alone (now (bytes .entry))))) ⌝ }
 {
+    let mut none = [0u8; 0];
     let f = w.fixed;
-    if !drive::runs_ok(f, kernel, vector, bytes) {
+    if !drive::runs_ok(f, kernel, vector, bytes, &none) {
         return refused_run(Refusal::Size, w);
     }
     if SPLITS < w.depth {
@@ -112,7 +115,17 @@ pub fn run(w: Warp, kernel: &[u32], vector: &mut [u32], bytes: &mut [u8], budget
     let mut h = layout::moving_of(w);
     let mut x = w.x;
     let mut s = layout::flat(q);
-    let end = drive::run_words(&mut h, &g, &mut x, &mut s, kernel, vector, bytes, budget);
+    let end = drive::run_words(
+        &mut h,
+        &g,
+        &mut x,
+        &mut s,
+        kernel,
+        vector,
+        bytes,
+        &mut none,
+        budget,
+    );
     let u = layout::together(&h, &g, x, &s);
     RunLeft {
         answer: answer::answer_of(end.code),
@@ -123,7 +136,7 @@ pub fn run(w: Warp, kernel: &[u32], vector: &mut [u32], bytes: &mut [u8], budget
 
 // One step.
 pub fn step(w: Warp, kernel: &[u32], vector: &mut [u32], bytes: &mut [u8]) -> Left
-    ensures { λ r. ⌜ outcome (numberOf (r .answer)) (state (r .warp) (now (vector .exit)) (now (bytes .exit))) ≡ stepOf (now (kernel .entry)) (state w (now (vector .entry)) (now (bytes .entry))) ⌝ }
+    ensures { λ r. ⌜ outcome (numberOf (r .answer)) (state (r .warp) (now (vector .exit)) (alone (now (bytes .exit)))) ≡ stepOf (now (kernel .entry)) (state w (now (vector .entry)) (alone (now (bytes .entry)))) ⌝ }
 {
     let r = run(w, kernel, vector, bytes, 1);
     let a = r.answer;

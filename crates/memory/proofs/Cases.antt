@@ -12,6 +12,7 @@ use Rattle.lanes.specs.Mask.{lane, bitAt, bit}
 use Rattle.lanes.specs.Lanes.{eachLane, allLanes, writeLanes}
 use Rattle.memory.specs.Bytes.{leBytes}
 use Rattle.memory.specs.Memory.{Memory, memory, insideOf, loadOf}
+use Rattle.memory.specs.Memories.{Memories, memories, contents, alone, insideOne, overlapOf, loadFrom, storeTo}
 use Rattle.memory.specs.declared.Private.{Private}
 use Rattle.memory.specs.Address.{addressOf, inWord}
 use Rattle.memory.specs.LaneAccess.{allInside, allInWord, storeLanes}
@@ -26,6 +27,10 @@ bytes = 1 ∷ 2 ∷ 3 ∷ 4 ∷ 250 ∷ 251 ∷ 252 ∷ 253 ∷ 8 ∷ 9 ∷ 10 �
 abbrev lent : Memory
 lent = memory base bytes
 
+-- the same with no local memory: a single warp's
+abbrev single : Memories
+single = memories base 0 (alone bytes)
+
 -- the words of four lanes, and their addresses by the distance from the base
 words : Lane → ℕ
 words l = getD (287454020 ∷ 1432778632 ∷ 2576980377 ∷ 3722304989 ∷ []) (l .0) 0
@@ -34,19 +39,19 @@ abbrev row : List ℕ → Lane → ℕ
 row a l = base + getD a (l .0) 0
 
 -- a store with lane 3 outside is not refused where that lane isn't active, and lanes 0 to 2 write
-three-inside : allInside 4 (bit 7) lent 4 (row (0 ∷ 4 ∷ 8 ∷ 13 ∷ [])) ≡ true
+three-inside : allInside 4 (bit 7) (insideOne single 4) (row (0 ∷ 4 ∷ 8 ∷ 13 ∷ [])) ≡ true
 unfolding base bytes allLanes bitAt
 three-inside = refl
 
-three-written : storeLanes 4 (bit 7) store.W (row (0 ∷ 4 ∷ 8 ∷ 13 ∷ [])) words lent
-    ≡ 68 ∷ 51 ∷ 34 ∷ 17 ∷ 136 ∷ 119 ∷ 102 ∷ 85 ∷ 153 ∷ 153 ∷ 153 ∷ 153 ∷ 12 ∷ 13 ∷ 14 ∷ 15 ∷ []
-unfolding base bytes words eachLane bitAt leBytes
+three-written : storeLanes 4 (bit 7) store.W (row (0 ∷ 4 ∷ 8 ∷ 13 ∷ [])) words single
+    ≡ alone (68 ∷ 51 ∷ 34 ∷ 17 ∷ 136 ∷ 119 ∷ 102 ∷ 85 ∷ 153 ∷ 153 ∷ 153 ∷ 153 ∷ 12 ∷ 13 ∷ 14 ∷ 15 ∷ [])
+unfolding base bytes words eachLane bitAt leBytes storeTo
 three-written = refl
 
 -- lanes 0, 1 and 3 store to one byte: the highest wins
-highest : storeLanes 4 (bit 11) store.B (row (5 ∷ 5 ∷ 5 ∷ 5 ∷ [])) words lent
-    ≡ 1 ∷ 2 ∷ 3 ∷ 4 ∷ 250 ∷ 221 ∷ 252 ∷ 253 ∷ 8 ∷ 9 ∷ 10 ∷ 11 ∷ 12 ∷ 13 ∷ 14 ∷ 15 ∷ []
-unfolding base bytes words eachLane bitAt leBytes
+highest : storeLanes 4 (bit 11) store.B (row (5 ∷ 5 ∷ 5 ∷ 5 ∷ [])) words single
+    ≡ alone (1 ∷ 2 ∷ 3 ∷ 4 ∷ 250 ∷ 221 ∷ 252 ∷ 253 ∷ 8 ∷ 9 ∷ 10 ∷ 11 ∷ 12 ∷ 13 ∷ 14 ∷ 15 ∷ [])
+unfolding base bytes words eachLane bitAt leBytes storeTo
 highest = refl
 
 -- lanes 0 and 2 load a byte each into v0; lanes 1 and 3 keep their words, wherever their addresses lie

@@ -19,10 +19,11 @@ use Rattle.lanes.proofs.Laws.{newest, each-grows, each-keeps, each-same, write-
 use Rattle.memory.specs.declared.Loaded.the-variants.{Found, Outside}
 use Rattle.memory.specs.declared.Private.{Private}
 use Rattle.memory.specs.Bytes.{leBytes}
-use Rattle.memory.specs.Memory.{Memory, memory, widthOf, insideOf, indexIn, loadOf, storeOf}
+use Rattle.memory.specs.Memory.{Memory, sizeOf, widthOf, insideOf, indexIn, loadOf, storeOf}
+use Rattle.memory.specs.Memories.{Region, Data, Local, Contents, contents, alone, Memories, memories, bytesAt, withBytes, memoryAt, insideOne, regionOf, loadFrom, storeTo}
 use Rattle.memory.specs.Address.{addressOf, laneAddress, inWord}
 use Rattle.memory.specs.LaneAccess.{laneInside, allInside, allInWord, storeLanes}
-use Rattle.memory.proofs.Access.{inside-true, all-inside-at}
+use Rattle.memory.proofs.Access.{inside-true, all-inside-at, inside-at, bytes-at, region-same}
 
 -- what a scalar load finds
 pub found-inside : (t : Bool) (y v : ℕ) → Found y ≡ cond t (Found v) Outside → (t ≡ true) × (y ≡ v)
@@ -46,20 +47,21 @@ module _ (n : ℕ) (on : Lane → Bool) (w off : ℕ) where
   plain-in-word xs = all-hold _ n (λ l h. ok-when (on l) true (λ t. refl))
 
 -- ---- what active lanes' addresses decide
-module _ (n : ℕ) (on : Lane → Bool) (m : Memory) (at at′ : Lane → ℕ) (same : (l : Lane) → l .0 < n → on l ≡ true → at l ≡ at′ l) where
+module _ (n : ℕ) (on : Lane → Bool) (m : Memories) (at at′ : Lane → ℕ) (same : (l : Lane) → l .0 < n → on l ≡ true → at l ≡ at′ l) where
   -- whether an access by lanes is refused depends on active lanes only
-  pub inside-only : (w : ℕ) → allInside n on m w at ≡ allInside n on m w at′
+  pub inside-only : (w : ℕ) → allInside n on (insideOne m w) at ≡ allInside n on (insideOne m w) at′
   inside-only w =
-      all-same (laneInside on m w at) (laneInside on m w at′) n (λ l h. ok-same (on l) (insideOf m w (at l)) (insideOf m w (at′ l)) (λ t. ap (insideOf m w) (same l h t)))
+      all-same (laneInside on (insideOne m w) at) (laneInside on (insideOne m w) at′) n
+      (λ l h. ok-same (on l) (insideOne m w (at l)) (insideOne m w (at′ l)) (λ t. ap (insideOne m w) (same l h t)))
 
   -- and so does what is loaded
-  pub load-only : (k : LoadOp) (vd : VReg) (v : List ℕ) → writeLanes n on vd (λ l. loadOf k m (at l)) v ≡ writeLanes n on vd (λ l. loadOf k m (at′ l)) v
-  load-only k vd v = write-same on vd (λ l. loadOf k m (at l)) (λ l. loadOf k m (at′ l)) v n (λ l h t. ap (loadOf k m) (same l h t))
+  pub load-only : (k : LoadOp) (vd : VReg) (v : List ℕ) → writeLanes n on vd (λ l. loadFrom k m (at l)) v ≡ writeLanes n on vd (λ l. loadFrom k m (at′ l)) v
+  load-only k vd v = write-same on vd (λ l. loadFrom k m (at l)) (λ l. loadFrom k m (at′ l)) v n (λ l h t. ap (loadFrom k m) (same l h t))
 
   -- and what is stored
   pub store-only : (k : StoreOp) (xs xs′ : Lane → ℕ) → ((l : Lane) → l .0 < n → on l ≡ true → xs l ≡ xs′ l) → storeLanes n on k at xs m ≡ storeLanes n on k at′ xs′ m
   store-only k xs xs′ e =
-      each-same on on _ _ (m .bytes) n (λ l h. refl) (λ l u h t. ap₂ (λ (a x : ℕ). storeOf k a x (memory (m .base) u)) (same l h t) (e l h t))
+      each-same on on _ _ (m .bytes) n (λ l h. refl) (λ l u h t. ap₂ (λ (a x : ℕ). storeTo k a x (memories (m .dataBase) (m .lds) u)) (same l h t) (e l h t))
 
 -- ---- bytes
 pub length-bytes : (n x : ℕ) → length (leBytes n x) ≡ n
@@ -98,38 +100,138 @@ module _ (k : StoreOp) (a x : ℕ) (m : Memory) where
       let len = length-bytes (widthOf k) x in
       sets-at (m .bytes) (indexIn m a) (leBytes (widthOf k) x) j (omega arith) (omega arith)
 
+-- ---- one access to the two memories
+
+-- what a load finds in the memory that has the access, and what a store makes of it
+module _ (m : Memories) (a : ℕ) where
+  module _ (k : LoadOp) where
+    pub load-data : insideOf (memoryAt Data m) (sizeOf k) a ≡ true → loadFrom k m a ≡ loadOf k (memoryAt Data m) a
+    unfolding loadFrom
+    load-data e = rw e
+
+    pub load-local : insideOf (memoryAt Data m) (sizeOf k) a ≡ false → loadFrom k m a ≡ loadOf k (memoryAt Local m) a
+    unfolding loadFrom
+    load-local e = rw e
+
+  module _ (k : StoreOp) (x : ℕ) where
+    pub store-data : insideOf (memoryAt Data m) (widthOf k) a ≡ true → storeTo k a x m ≡ contents (storeOf k a x (memoryAt Data m)) (m .bytes .localBytes)
+    unfolding storeTo
+    store-data e = rw e
+
+    pub store-local : insideOf (memoryAt Data m) (widthOf k) a ≡ false → storeTo k a x m ≡ contents (m .bytes .dataBytes) (storeOf k a x (memoryAt Local m))
+    unfolding storeTo
+    store-local e = rw e
+
+-- of the same lengths
+abbrev pub Same : Contents → Contents → Type 0
+Same c e = (r : Region) → length (bytesAt r c) ≡ length (bytesAt r e)
+
+-- a local memory of no bytes stays one
+pub alone-still : (c : Contents) (d : List ℕ) → Same c (alone d) → alone (c .dataBytes) ≡ c
+alone-still c d same = ap (contents (c .dataBytes)) (none (c .localBytes) (same Local))
+  where
+    none : (l : List ℕ) → length l ≡ 0 → [] ≡ l
+    none [] e = refl
+    none (x ∷ l) e = absurd (omega arith)
+
+module _ (k : StoreOp) (a x : ℕ) (m : Memories) where
+  -- the store goes to the region s
+  abbrev into : Region → Contents
+  into s = withBytes s (storeOf k a x (memoryAt s m)) (m .bytes)
+
+  pub store-same : Same (storeTo k a x m) (m .bytes)
+  unfolding storeTo
+  store-same = by (regionOf m (widthOf k) a)
+    where
+      by : (s : Region) → Same (into s) (m .bytes)
+      by Data Data = store-length k a x (memoryAt Data m)
+      by Data Local = refl
+      by Local Data = refl
+      by Local Local = store-length k a x (memoryAt Local m)
+
+  -- a byte of the region r that the access does not have stays
+  pub to-unwritten : (r : Region) (i : ℕ) → (regionOf m (widthOf k) a ≡ r → indexIn (memoryAt r m) a ≤ i → i < indexIn (memoryAt r m) a + widthOf k → ⊥)
+      → getD (bytesAt r (storeTo k a x m)) i 0 ≡ getD (bytesAt r (m .bytes)) i 0
+  unfolding storeTo
+  to-unwritten r i o = by (regionOf m (widthOf k) a) refl r o
+    where
+      by : (s : Region) → regionOf m (widthOf k) a ≡ s → (r : Region) → (s ≡ r → indexIn (memoryAt r m) a ≤ i → i < indexIn (memoryAt r m) a + widthOf k → ⊥)
+          → getD (bytesAt r (into s)) i 0 ≡ getD (bytesAt r (m .bytes)) i 0
+      by Data q Data o = store-unwritten k a x (memoryAt Data m) i (o refl)
+      by Data q Local o = refl
+      by Local q Data o = refl
+      by Local q Local o = store-unwritten k a x (memoryAt Local m) i (o refl)
+
+  -- and one that it has is the word's
+  pub to-at : (r : Region) → regionOf m (widthOf k) a ≡ r → indexIn (memoryAt r m) a + widthOf k ≤ length (bytesAt r (m .bytes)) → (j : ℕ) → j < widthOf k
+      → getD (bytesAt r (storeTo k a x m)) (indexIn (memoryAt r m) a + j) 0 ≡ getD (leBytes (widthOf k) x) j 0
+  unfolding storeTo
+  to-at r q h j b = rw q (by r h)
+    where
+      by : (r : Region) → indexIn (memoryAt r m) a + widthOf k ≤ length (bytesAt r (m .bytes)) → getD (bytesAt r (into r)) (indexIn (memoryAt r m) a + j) 0 ≡ getD (leBytes (widthOf k) x) j 0
+      by Data h = store-at k a x (memoryAt Data m) h j b
+      by Local h = store-at k a x (memoryAt Local m) h j b
+
 -- ---- stores by lanes
-module _ (n : ℕ) (on : Lane → Bool) (k : StoreOp) (at xs : Lane → ℕ) (m : Memory) where
-  pub lanes-length : length (storeLanes n on k at xs m) ≡ length (m .bytes)
-  lanes-length = each-keeps on _ (m .bytes) (λ u. length u ≡ length (m .bytes)) refl n (λ l u h t e. store-length k (at l) (xs l) (memory (m .base) u) ∙ e)
+module _ (n : ℕ) (on : Lane → Bool) (k : StoreOp) (at xs : Lane → ℕ) (m : Memories) where
+  abbrev turned : Contents → Memories
+  turned u = memories (m .dataBase) (m .lds) u
+
+  pub lanes-same : Same (storeLanes n on k at xs m) (m .bytes)
+  lanes-same = each-keeps on _ (m .bytes) (λ u. Same u (m .bytes)) (λ r. refl) n (λ l u h t e r. store-same k (at l) (xs l) (turned u) r ∙ e r)
+
+  abbrev w : ℕ
+  w = widthOf k
+
+  -- the same place, whatever the bytes are
+  index-turned : (r : Region) (u : Contents) (a : ℕ) → indexIn (memoryAt r (turned u)) a ≡ indexIn (memoryAt r m) a
+  index-turned Data u a = refl
+  index-turned Local u a = refl
 
   -- a byte that no active lane's access has stays
-  pub lanes-unwritten : (i : ℕ) → ((l : Lane) → l .0 < n → on l ≡ true → indexIn m (at l) ≤ i → i < indexIn m (at l) + widthOf k → ⊥) → getD (storeLanes n on k at xs m) i 0 ≡ getD (m .bytes) i 0
-  lanes-unwritten i o =
-      each-keeps on _ (m .bytes) (λ u. getD u i 0 ≡ getD (m .bytes) i 0) refl n (λ l u h t e. store-unwritten k (at l) (xs l) (memory (m .base) u) i (o l h t) ∙ e)
+  pub lanes-unwritten : (r : Region) (i : ℕ) → ((l : Lane) → l .0 < n → on l ≡ true → regionOf m w (at l) ≡ r → indexIn (memoryAt r m) (at l) ≤ i → i < indexIn (memoryAt r m) (at l) + w → ⊥)
+      → getD (bytesAt r (storeLanes n on k at xs m)) i 0 ≡ getD (bytesAt r (m .bytes)) i 0
+  lanes-unwritten r i o =
+      each-keeps on _ (m .bytes) (λ u. Same u (m .bytes) × (getD (bytesAt r u) i 0 ≡ getD (bytesAt r (m .bytes)) i 0)) ((λ r. refl), refl) n
+      (λ l u h t e. (
+        λ s. store-same k (at l) (xs l) (turned u) s ∙ e .0 s,
+        to-unwritten k (at l) (xs l) (turned u) r i
+            (λ q p z. o l h t (sym (region-same (m .dataBase) (m .lds) u (m .bytes) w (at l) (e .0)) ∙ q) (rw (← index-turned r u (at l)) p) (rw (← index-turned r u (at l)) z)) ∙ e .1,
+      )) .1
 
   -- a byte has what the highest lane that stores to it stores there: byte j of active lane l's access, where no higher active lane's access has it
-  pub lanes-highest : true ≡ allInside n on m (widthOf k) at → (l : Lane) → l .0 < n → on l ≡ true → (j : ℕ) → j < widthOf k
-      → ((i : Lane) → l .0 < i .0 → i .0 < n → on i ≡ true → at i ≤ at l + j → at l + j < at i + widthOf k → ⊥)
-      → getD (storeLanes n on k at xs m) (indexIn m (at l) + j) 0 ≡ getD (leBytes (widthOf k) (xs l)) j 0
-  lanes-highest all l h t j b o =
-      each-grows on _ (m .bytes) (λ i u. (length u ≡ length (m .bytes)) × (l .0 < i → Has u)) (refl, λ z. absurd (omega arith)) n
-      (λ i u p q e. (store-length k (at i) (xs i) (memory (m .base) u) ∙ e .0, λ z. ⊎-elim (newly i u (e .0)) (λ y. before i u p q y ∙ e .1 y) (newest z)))
+  pub lanes-highest : true ≡ allInside n on (insideOne m w) at → (l : Lane) → l .0 < n → on l ≡ true → (r : Region) → regionOf m w (at l) ≡ r → (j : ℕ) → j < w
+      → ((i : Lane) → l .0 < i .0 → i .0 < n → on i ≡ true → at i ≤ at l + j → at l + j < at i + w → ⊥)
+      → getD (bytesAt r (storeLanes n on k at xs m)) (indexIn (memoryAt r m) (at l) + j) 0 ≡ getD (leBytes w (xs l)) j 0
+  lanes-highest all l h t r reg j b o =
+      each-grows on _ (m .bytes) (λ i u. Same u (m .bytes) × (l .0 < i → Has u)) ((λ r. refl), λ z. absurd (omega arith)) n
+      (λ i u p q e. (λ s. store-same k (at i) (xs i) (turned u) s ∙ e .0 s, λ z. ⊎-elim (newly i u (e .0)) (λ y. before i u p q (e .0) y ∙ e .1 y) (newest z)))
       (λ i u p q e. (e .0, λ z. ⊎-elim (λ y. absurd (true≢false (sym t ∙ ap on y ∙ q))) (e .1) (newest z))) .1 h
     where
-      Has : List ℕ → Type 0
-      Has u = getD u (indexIn m (at l) + j) 0 ≡ getD (leBytes (widthOf k) (xs l)) j 0
+      Has : Contents → Type 0
+      Has u = getD (bytesAt r u) (indexIn (memoryAt r m) (at l) + j) 0 ≡ getD (leBytes w (xs l)) j 0
 
-      fits : (i : Lane) → i .0 < n → on i ≡ true → (m .base ≤ at i) × (indexIn m (at i) + widthOf k ≤ length (m .bytes))
-      fits i p q = inside-true m (widthOf k) (at i) (all-inside-at n on m (widthOf k) at all i p q)
+      -- an access of the region r, as indexes
+      fits : (i : Lane) → i .0 < n → on i ≡ true → regionOf m w (at i) ≡ r → (memoryAt r m .base ≤ at i) × (indexIn (memoryAt r m) (at i) + w ≤ length (memoryAt r m .bytes))
+      fits i p q e = inside-true (memoryAt r m) w (at i) (inside-at m w (at i) (all-inside-at n on (insideOne m w) at all i p q) r e)
 
-      newly : (i : Lane) (u : List ℕ) → length u ≡ length (m .bytes) → l ≡ i → Has (storeOf k (at i) (xs i) (memory (m .base) u))
+      region-at : (i : Lane) (u : Contents) → Same u (m .bytes) → regionOf (turned u) w (at i) ≡ regionOf m w (at i)
+      region-at i u e = region-same (m .dataBase) (m .lds) u (m .bytes) w (at i) e
+
+      newly : (i : Lane) (u : Contents) → Same u (m .bytes) → l ≡ i → Has (storeTo k (at i) (xs i) (turned u))
       newly i u e y =
-          let z = fits l h t in
-          subst (λ (i : Lane). Has (storeOf k (at i) (xs i) (memory (m .base) u))) y (store-at k (at l) (xs l) (memory (m .base) u) (omega arith) j b)
+          let z = fits l h t reg in
+          subst (λ (i : Lane). Has (storeTo k (at i) (xs i) (turned u))) y
+          (subst (λ (p : ℕ). getD (bytesAt r (storeTo k (at l) (xs l) (turned u))) (p + j) 0 ≡ getD (leBytes w (xs l)) j 0) (index-turned r u (at l))
+          (to-at k (at l) (xs l) (turned u) r (region-at l u e ∙ reg) (rw (index-turned r u (at l), e r, ← bytes-at m r) (z .1)) j b))
 
-      before : (i : Lane) (u : List ℕ) → i .0 < n → on i ≡ true → l .0 < i .0 → getD (storeOf k (at i) (xs i) (memory (m .base) u)) (indexIn m (at l) + j) 0 ≡ getD u (indexIn m (at l) + j) 0
-      before i u p q y =
-          let z = fits l h t in
-          let w = fits i p q in
-          store-unwritten k (at i) (xs i) (memory (m .base) u) (indexIn m (at l) + j) (λ f g. o i y p q (omega arith) (omega arith))
+      before : (i : Lane) (u : Contents) → i .0 < n → on i ≡ true → Same u (m .bytes) → l .0 < i .0
+          → getD (bytesAt r (storeTo k (at i) (xs i) (turned u))) (indexIn (memoryAt r m) (at l) + j) 0 ≡ getD (bytesAt r u) (indexIn (memoryAt r m) (at l) + j) 0
+      before i u p q e y =
+          let z = fits l h t reg in
+          to-unwritten k (at i) (xs i) (turned u) r (indexIn (memoryAt r m) (at l) + j)
+          (λ s f g.
+          let v = fits i p q (sym (region-at i u e) ∙ s) in
+          let f1 : indexIn (memoryAt r m) (at i) ≤ indexIn (memoryAt r m) (at l) + j = rw (← index-turned r u (at i)) f in
+          let g1 : indexIn (memoryAt r m) (at l) + j < indexIn (memoryAt r m) (at i) + w = rw (← index-turned r u (at i)) g in
+          o i y p q (omega arith) (omega arith))

@@ -1,4 +1,5 @@
 pub mod Bytes
 pub mod Memory
+pub mod Memories
 pub mod Address
 pub mod LaneAccess

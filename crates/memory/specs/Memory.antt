@@ -1,4 +1,4 @@
--- Data memory: bytes lent at a base address, and one access to it.
+-- A memory: bytes lent at a base address, and one access to it.
 use mathlib.Core.Bool.{Bool, _&&_}
 use mathlib.Core.List.{List}
 use Prim.Native.Nat.{ℕ, _+_, _-_, _^_, _≤_}

@@ -1,4 +1,4 @@
-// Data memory: one access, little-endian, tested and then done.
+// The data memory and the local memory: one access, little-endian, tested and then done.
 use isa::LoadOp;
 use isa::StoreOp;
 ghost use mathlib.Core.Path.{_≡_};
@@ -9,6 +9,7 @@ ghost use lib.Seq.{sets};
 ghost use Rattle.isa.specs.declared.Space.the-variants as spaces;
 ghost use Rattle.memory.specs.Bytes.{leAt, leBytes};
 ghost use Rattle.memory.specs.Memory.{memory, dataLimit, MemoryOk, sizeOf, widthOf, insideOf, loadOf, storeOf};
+ghost use Rattle.memory.specs.Memories.{contents, memories, MemoriesOk, insideOne, loadFrom, storeTo};
 ghost use Rattle.memory.specs.Address.{plainOf, offsetLimit};
 ghost use Rattle.memory.specs.declared.Loaded.the-variants.{Found, Outside};
 
@@ -149,23 +150,61 @@ pub fn put_at(d: &mut [u8], base: u32, k: StoreOp, a: u32, x: u32)
     }
 }
 
-pub fn scalar_load(d: &[u8], base: u32, k: LoadOp, a: u32) -> Loaded
-    requires { ⌜ MemoryOk (memory base (now d)) ⌝ }
-    ensures { λ r. ⌜ r ≡ cond (insideOf (memory base (now (d .entry))) (sizeOf k) a) (Found (loadOf k (memory base (now (d .entry))) a)) Outside ⌝ }
+// A load that lies in one of the memories, by a lane.
+pub fn load_one(d: &[u8], base: u32, l: &[u8], near: u32, k: LoadOp, a: u32) -> u32
+    requires { ⌜ MemoriesOk (memories base near (contents (now d) (now l))) × (insideOne (memories base near (contents (now d) (now l))) (sizeOf k) a ≡ true) ⌝ }
+    ensures { λ r. ⌜ r ≡ loadFrom k (memories base near (contents (now (d .entry)) (now (l .entry)))) a ⌝ }
+{
+    if inside(d, base, size(k), a) {
+        return load_at(d, base, k, a);
+    }
+    load_at(l, near, k, a)
+}
+
+// A store that lies in one of the memories, by a lane.
+pub fn put_one(d: &mut [u8], base: u32, l: &mut [u8], near: u32, k: StoreOp, a: u32, x: u32)
+    requires { ⌜ MemoriesOk (memories base near (contents (now d) (now l))) × (insideOne (memories base near (contents (now d) (now l))) (widthOf k) a ≡ true) ⌝ }
+    ensures { λ _. ⌜ contents (now (d .exit)) (now (l .exit)) ≡ storeTo k a x (memories base near (contents (now (d .entry)) (now (l .entry)))) ⌝ }
+{
+    if inside(d, base, width(k), a) {
+        put_at(d, base, k, a, x);
+        return;
+    }
+    put_at(l, near, k, a, x);
+}
+
+pub fn scalar_load(d: &[u8], base: u32, l: &[u8], near: u32, k: LoadOp, a: u32) -> Loaded
+    requires { ⌜ MemoriesOk (memories base near (contents (now d) (now l))) ⌝ }
+    ensures { λ r. ⌜ r ≡ cond (insideOne (memories base near (contents (now (d .entry)) (now (l .entry)))) (sizeOf k) a) (Found (loadFrom k (memories base near (contents (now (d .entry)) (now (l .entry)))) a)) Outside ⌝ }
 {
     if inside(d, base, size(k), a) {
         return Loaded::Found(load_at(d, base, k, a));
     }
+    if inside(l, near, size(k), a) {
+        return Loaded::Found(load_at(l, near, k, a));
+    }
     Loaded::Outside
 }
 
-// False, and nothing changed, where the access is not wholly inside.
-pub fn scalar_store(d: &mut [u8], base: u32, k: StoreOp, a: u32, x: u32) -> bool
-    requires { ⌜ MemoryOk (memory base (now d)) ⌝ }
-    ensures { λ t. ⌜ (t ≡ insideOf (memory base (now (d .entry))) (widthOf k) a) × (now (d .exit) ≡ cond t (storeOf k a x (memory base (now (d .entry)))) (now (d .entry))) ⌝ }
+// False, and nothing changed, where the access is not wholly inside one of the memories.
+pub fn scalar_store(
+    d: &mut [u8],
+    base: u32,
+    l: &mut [u8],
+    near: u32,
+    k: StoreOp,
+    a: u32,
+    x: u32,
+) -> bool
+    requires { ⌜ MemoriesOk (memories base near (contents (now d) (now l))) ⌝ }
+    ensures { λ t. ⌜ (t ≡ insideOne (memories base near (contents (now (d .entry)) (now (l .entry)))) (widthOf k) a) × (contents (now (d .exit)) (now (l .exit)) ≡ cond t (storeTo k a x (memories base near (contents (now (d .entry)) (now (l .entry))))) (contents (now (d .entry)) (now (l .entry)))) ⌝ }
 {
     if inside(d, base, width(k), a) {
         put_at(d, base, k, a, x);
+        return true;
+    }
+    if inside(l, near, width(k), a) {
+        put_at(l, near, k, a, x);
         return true;
     }
     false

@@ -12,6 +12,7 @@ use lib.Seq.{length-sets, length-take-le}
 use Rattle.io.specs.Counts.{Counts}
 use Rattle.answer.proofs.Rows.{both}
 use Rattle.lanes.specs.Lanes.{fileWords}
+use Rattle.memory.specs.Memories.{alone}
 use Rattle.warp.specs.declared.Launch.{Launch}
 use Rattle.warp.specs.WellFormed.{launchOkOf}
 use Rattle.card.specs.Card.{Reading}
@@ -36,8 +37,8 @@ module _ (c k v d : List ℕ) (r : Reading) (e : r ≡ readFilesOf c k d) (n : �
 
 -- ---- the launch
 
-module _ (k : List ℕ) (l : Launch) (v d : List ℕ) (o : Outcome) (e : o ≡ launchOf k l v d) (n : ℕ) (is : n ≡ o .code) where
-  pub launch-refused : (n ≡ 0 → ⊥) → kernelReport k l v d ≡ report (codeLine n) (o .left .vector) (o .left .bytes)
+module _ (k : List ℕ) (l : Launch) (v d : List ℕ) (o : Outcome) (e : o ≡ launchOf k l v (alone d)) (n : ℕ) (is : n ≡ o .code) where
+  pub launch-refused : (n ≡ 0 → ⊥) → kernelReport k l v d ≡ report (codeLine n) (o .left .vector) (o .left .bytes .dataBytes)
   unfolding kernelReport
   launch-refused h = rw (← e, ← is, ne-eqb n 0 h)
 
@@ -82,11 +83,11 @@ module _ (v d : List ℕ) (h : length v ≡ fileWords) where
   zeros-long : length zeros ≡ length v
   zeros-long = length-replicate {A = ℕ} fileWords 0 ∙ sym h
 
-  kernel-lines : (k : List ℕ) (l : Launch) (a b : Bool) → runsOkOf (l .fixed) k v d ≡ a → launchOkOf l ≡ b → kernelReport k l v d .lines ≡ kernelReport k l zeros d .lines
+  kernel-lines : (k : List ℕ) (l : Launch) (a b : Bool) → runsOkOf (l .fixed) k v (alone d) ≡ a → launchOkOf l ≡ b → kernelReport k l v d .lines ≡ kernelReport k l zeros d .lines
   unfolding kernelReport launchOf
-  kernel-lines k l false b p q = rw (sizes-kept (l .fixed) k v d zeros d zeros-long refl, p)
-  kernel-lines k l true false p q = rw (sizes-kept (l .fixed) k v d zeros d zeros-long refl, p, q)
-  kernel-lines k l true true p q = rw (sizes-kept (l .fixed) k v d zeros d zeros-long refl, p, q)
+  kernel-lines k l false b p q = rw (sizes-kept (l .fixed) k v (alone d) zeros (alone d) zeros-long (λ r. refl), p)
+  kernel-lines k l true false p q = rw (sizes-kept (l .fixed) k v (alone d) zeros (alone d) zeros-long (λ r. refl), p, q)
+  kernel-lines k l true true p q = rw (sizes-kept (l .fixed) k v (alone d) zeros (alone d) zeros-long (λ r. refl), p, q)
 
   pub printout-is : (c k : List ℕ) → reportOf c k v d .lines ≡ printoutOf c k d
   unfolding reportOf printoutOf

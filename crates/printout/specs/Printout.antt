@@ -6,6 +6,7 @@ use lib.Dec.{eqb, leb}
 use lib.ListN.{length, replicate}
 use lib.Seq.{sets}
 use Rattle.lanes.specs.Lanes.{fileWords}
+use Rattle.memory.specs.Memories.{alone}
 use Rattle.warp.specs.declared.Launch.{Launch}
 use Rattle.definition.specs.State.{Outcome}
 use Rattle.definition.specs.Calls.{launchOf, Ran, runOf}
@@ -66,14 +67,14 @@ abbrev pub ranReport : Ran → Report
 ranReport r =
     let m = r .ends .left in
     let w = m .warp in
-    report (fiveLines (r .ends .code) (r .steps) (w .pc) (w .mask) (w .depth)) (m .vector) (m .bytes)
+    report (fiveLines (r .ends .code) (r .steps) (w .pc) (w .mask) (w .depth)) (m .vector) (m .bytes .dataBytes)
 
 -- the kernel k in words
 abbrev pub launchedReport : List ℕ → Outcome → Report
-launchedReport k o = cond (eqb (o .code) 0) (ranReport (runOf k budget (o .left))) (report (codeLine (o .code)) (o .left .vector) (o .left .bytes))
+launchedReport k o = cond (eqb (o .code) 0) (ranReport (runOf k budget (o .left))) (report (codeLine (o .code)) (o .left .vector) (o .left .bytes .dataBytes))
 
 unfoldable pub kernelReport : List ℕ → Launch → List ℕ → List ℕ → Report
-kernelReport k l v d = launchedReport k (launchOf k l v d)
+kernelReport k l v d = launchedReport k (launchOf k l v (alone d))
 
 -- the files c, k and d, with the vector file v lent: the files' tests first, then the launch
 unfoldable pub reportOf : List ℕ → List ℕ → List ℕ → List ℕ → Report

@@ -16,6 +16,7 @@ use Rattle.isa.specs.declared.VReg.{VReg}
 use Rattle.lanes.specs.declared.Lane.{Lane}
 use Rattle.lanes.specs.Mask.{lane}
 use Rattle.isa.specs.Bounds.{vectorRegisters}
+use Rattle.memory.specs.Memories.{bytesAt}
 use Rattle.lanes.specs.Lanes.{lanesMax, fileWords, slotOf, writeLanes}
 use Rattle.lanes.proofs.Laws.{each-keeps, write-only, write-unwritten}
 use Rattle.lanes.proofs.MaskLaws.{bit-above}
@@ -88,10 +89,10 @@ kept k m l h o =
     (λ z. kept-by (usedUp m) (m .vector) _ _ _ (fixed-of (m .warp) (step-clear k m z .formed) .lanes .1) l h o (compared (usedUp m) (m .vector) (instrAt k m) .twin))
 
 pub unwritten : Unwritten
-unwritten k m = (
-  step-within k m .size,
-  λ j o. is-zero (stepOf k m .code) (λ z. becomes-stays m _ _ _ _ (written k m z j) o)
-      (λ n. ap (λ (s : Outcome). getD (s .left .bytes) j 0) (step-keeps k m n)),
+unwritten k m r = (
+  step-within k m .size r,
+  λ j h o. is-zero (stepOf k m .code) (λ z. becomes-stays m _ _ _ _ (written k m z r j h) o)
+      (λ n. ap (λ (s : Outcome). getD (bytesAt r (s .left .bytes)) j 0) (step-keeps k m n)),
 )
 
 -- ---- what a lane depends on
@@ -121,13 +122,13 @@ module _ (k : List ℕ) (m : State) (u : List ℕ) (long : length (m .vector) �
       write-alike (fixedOf m .numt) (active m) c f g (m .vector) u l (fixed-of (m .warp) (t .formed) .lanes .1) n (sym long ∙ n) h (e l s) s
   alone i a b z l h s (stores-both t e) = s
 
-  -- where the active lanes are the same, so are the answer, the warp and the data
+  -- where the active lanes are the same, so are the answer, the warp and the memories
   module _ (same : wellFormedOf (m .warp) ≡ true → Same m u) where
     code-same : stepOf k m .code ≡ stepOf k (withFile u m) .code
     code-same = step-table k m ∙ by-formed (wellFormedOf (m .warp)) refl ∙ sym (step-table k (withFile u m))
       where
         runs : runsOkOf (fixedOf m) k (m .vector) (m .bytes) ≡ runsOkOf (fixedOf m) k u (m .bytes)
-        runs = sizes-kept (fixedOf m) k u (m .bytes) (m .vector) (m .bytes) long refl
+        runs = sizes-kept (fixedOf m) k u (m .bytes) (m .vector) (m .bytes) long (λ r. refl)
 
         by-formed : (t : Bool) → wellFormedOf (m .warp) ≡ t → first (testsOf k m) ≡ first (testsOf k (withFile u m))
         by-formed true f = rw runs (ap (λ (rs : List (Row Bool)). first (stepTests k (withFile u m) ++ rs)) (compared m u (instrAt k m) .rows (same f)))

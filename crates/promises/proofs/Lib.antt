@@ -11,3 +11,4 @@ pub mod Private
 pub mod Prefixes
 pub mod Determined
 pub mod High
+pub mod OneSpace

@@ -9,6 +9,7 @@ use lib.ListN.{length, replicate}
 use borrow.Author.Tests.{eq-eqb, eqb-true, ltb-false}
 use Rattle.answer.proofs.Rows.{both}
 use Rattle.lanes.specs.Lanes.{fileWords}
+use Rattle.memory.specs.Memories.{Region, Contents, bytesAt}
 use Rattle.warp.specs.declared.Launch.{Launch}
 use Rattle.warp.specs.declared.Warp.{Warp}
 use Rattle.warp.specs.Warp.{aligned, splitCount, Answered}
@@ -43,7 +44,7 @@ pub record Carried (s t : State) : Type 0 where
   pub fixed : fixedOf t ≡ fixedOf s
   pub registers : length (t .warp .x) ≡ length (s .warp .x)
   pub words : length (t .vector) ≡ length (s .vector)
-  pub size : length (t .bytes) ≡ length (s .bytes)
+  pub size : (r : Region) → length (bytesAt r (t .bytes)) ≡ length (bytesAt r (s .bytes))
 
 -- a waiting warp has no split open
 shut : (w : Warp) → Formed w → w .waiting ≡ true → w .depth ≡ 0
@@ -73,16 +74,16 @@ carried k s t g (releases q) =
       fixed = refl;
       registers = refl;
       words = refl;
-      size = refl;
+      size = λ r. refl;
     })
-carried k s t g (changes v d) =
+carried k s t g (changes v c) =
     record {
       formed = formed (s .warp) (g .splits) (g .formed);
       moves = leaves (record { splits = refl; depth = refl; mask = refl; fixed = refl });
       fixed = refl;
       registers = refl;
       words = v;
-      size = d;
+      size = c;
     }
 
 pub goes-fit : (k : List ℕ) (s t : State) → Fit k s → GoesOn k s t → Fit k t
@@ -116,24 +117,24 @@ formed-launch l e =
       free = refl;
     }
 
-launch-sound : (k : List ℕ) (l : Launch) (s : State) (v d : List ℕ) → launchOf k l v d ≡ outcome 0 s → Sound k l s
-launch-sound k l s v d q =
-    let r = launch-refusals k l v d in
-    let z : launchOf k l v d .code ≡ 0 = ap (λ (o : Outcome). o .code) q in
-    let p = both (runsOkOf (l .fixed) k v d) (launchOkOf l) (r .row0 .0 z) in
+launch-sound : (k : List ℕ) (l : Launch) (s : State) (v : List ℕ) (c : Contents) → launchOf k l v c ≡ outcome 0 s → Sound k l s
+launch-sound k l s v c q =
+    let r = launch-refusals k l v c in
+    let z : launchOf k l v c .code ≡ 0 = ap (λ (o : Outcome). o .code) q in
+    let p = both (runsOkOf (l .fixed) k v c) (launchOkOf l) (r .row0 .0 z) in
     subst (Sound k l) (ap (λ (o : Outcome). o .left) (sym (r .gives z) ∙ q))
     (record {
       formed = well (launchedOf l) (formed-launch l (p .1));
       splits = refl;
       registers = refl;
-      runs = sizes-kept (l .fixed) k v d (replicate fileWords 0) d (sym (sizes (l .fixed) k v d (p .0) .file-is)) refl ∙ p .0;
+      runs = sizes-kept (l .fixed) k v c (replicate fileWords 0) c (sym (sizes (l .fixed) k v c (p .0) .file-is)) (λ r. refl) ∙ p .0;
       fixed = refl;
     })
 
 -- ---- promises
 
 pub reached-sound : ReachedSound
-reached-sound k l s (launched v d q) = launch-sound k l s v d q
+reached-sound k l s (launched v c q) = launch-sound k l s v c q
 reached-sound k l s (goes {s = r} h n) = goes-sound k l r s (reached-sound k l r h) n
 
 -- a test that holds is not refused

@@ -91,8 +91,8 @@ launches false b = refuses
 
 pub launch-refusals : LaunchRefusals
 unfolding launchOf
-launch-refusals k l v d =
-    let r = launches (runsOkOf (l .fixed) k v d) (launchOkOf l) in
+launch-refusals k l v c =
+    let r = launches (runsOkOf (l .fixed) k v c) (launchOkOf l) in
     record { row0 = r .row0; row1 = r .row1; answers = r .answers; keeps = λ n. rw (ne-eqb _ _ n, r .answers n); gives = λ z. rw (eq-eqb _ _ z, z) }
 
 record Releases (a b : Bool) (n : ℕ) : Type 0 where

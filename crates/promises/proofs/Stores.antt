@@ -6,7 +6,7 @@ use mathlib.Core.Logic.{⊎-elim}
 use native.Mathlib.Nat.{lt-of-lt-of-le, le-suc, le-refl}
 use native.Mathlib.Omega.{arith}
 use lib.Dec.{leb, ltb}
-use lib.ListN.{getD}
+use lib.ListN.{length, getD}
 use borrow.Author.Tests.{ltb-true, ltb-false, lt-ltb, leb-true, le-leb}
 use Rattle.answer.specs.Rows.{first}
 use Rattle.answer.proofs.Rows.{both}
@@ -21,13 +21,14 @@ use Rattle.lanes.specs.Mask.{lane as nth}
 use Rattle.lanes.specs.Lanes.{laneOf}
 use Rattle.lanes.proofs.Laws.{newest}
 use Rattle.memory.specs.Memory.{Memory, widthOf, insideOf, indexIn}
-use Rattle.memory.proofs.Access.{inside-true, inside-address, all-inside-at}
-use Rattle.memory.proofs.Laws.{store-unwritten, lanes-unwritten}
+use Rattle.memory.specs.Memories.{Region, Data, Local, Memories, bytesAt, memoryAt, overlapOf, insideOne, regionOf}
+use Rattle.memory.proofs.Access.{inside-true, inside-address, all-inside-at, inside-region, inside-at, bytes-at, one-region}
+use Rattle.memory.proofs.Laws.{to-unwritten, lanes-unwritten}
 use Rattle.definition.specs.State.{State, fixedOf, active, xOf, memoryOf, scalarAt, laneAt}
 use Rattle.definition.specs.Refuse.{refusalsOf}
 use Rattle.definition.specs.Exec.{effect, effectOf}
 use Rattle.definition.proofs.Stored.{scalar-inside, scalar-stored, lanes-inside, lane-stored}
-use Rattle.promises.specs.Lanes.{isActive, Has, Touches, scalar, lane}
+use Rattle.promises.specs.Lanes.{isActive, addressIn, Has, Touches, scalar, lane}
 use Rattle.promises.specs.Written.{byteAt, Becomes, stays, byScalar, byLane}
 
 -- ---- active lanes
@@ -85,12 +86,27 @@ untouched-lanes m a s k x y n o (lane s1 k1 x1 y1 n1 l t h) = o l t h
 
 -- ---- each byte after a store
 
-module _ (m : State) (j : ℕ) where
+-- the memories don't overlap
+abbrev pub Apart : State → Type 0
+Apart m = overlapOf (memoryAt Data (memoryOf m)) (memoryAt Local (memoryOf m)) ≡ false
+
+-- byte j of the memory r
+module _ (m : State) (apart : Apart m) (r : Region) (j : ℕ) (below : j < length (bytesAt r (m .bytes))) where
+  abbrev E : Memories
+  E = memoryOf m
+
   abbrev M : Memory
-  M = memoryOf m
+  M = memoryAt r E
 
   abbrev A : ℕ
-  A = M .base + j
+  A = addressIn r j m
+
+  -- an access that has its address is one to this memory
+  here : (w a : ℕ) → insideOne E w a ≡ true → Has w a A → regionOf E w a ≡ r
+  here w a e h =
+      let z = inside-true (memoryAt (regionOf E w a) E) w a (inside-region E w a e) in
+      let n : length (M .bytes) ≡ length (bytesAt r (m .bytes)) = ap length (bytes-at E r) in
+      one-region E apart A (regionOf E w a) r (omega (arith, z .0, h .0), omega (arith, z .0, z .1, h .1)) (omega arith, omega (arith, n, below))
 
   -- byte j is the one at its address of an access that lies inside
   place : (w a : ℕ) → insideOf M w a ≡ true → Has w a A → indexIn M a + (A - a) ≡ j
@@ -98,7 +114,7 @@ module _ (m : State) (j : ℕ) where
 
   -- what the instruction leaves there
   abbrev After : Instr → Type 0
-  After i = Becomes m A (getD (m .bytes) j 0) (getD (effect (effectOf i m) m .bytes) j 0) i
+  After i = Becomes m A (getD (bytesAt r (m .bytes)) j 0) (getD (bytesAt r (effect (effectOf i m) m .bytes)) j 0) i
 
   pub scalar-becomes : (k : StoreOp) (x y : XReg) (n : ℕ) → first (refusalsOf (I.Store k x y n) m) ≡ 0 → After (I.Store k x y n)
   unfolding effectOf
@@ -110,18 +126,19 @@ module _ (m : State) (j : ℕ) where
       a : ℕ
       a = scalarAt x n m
 
-      fits : insideOf M w a ≡ true
+      fits : insideOne E w a ≡ true
       fits = scalar-inside m k x y n e
 
       by : (t : Bool) → hasOf w a A ≡ t → After (I.Store k x y n)
       by true t =
           let h = has-true w a A t in
+          let q = here w a fits h in
           byScalar k x y n h
-          (subst (λ (i : ℕ). getD (effect (effectOf (I.Store k x y n) m) m .bytes) i 0 ≡ byteAt k a (xOf y m) A) (place w a fits h)
-          (scalar-stored m k x y n e (A - a) (omega (arith, h .0, h .1))))
+          (subst (λ (i : ℕ). getD (bytesAt r (effect (effectOf (I.Store k x y n) m) m .bytes)) i 0 ≡ byteAt k a (xOf y m) A) (place w a (inside-at E w a fits r q) h)
+          (scalar-stored m k x y n e r q (A - a) (omega (arith, h .0, h .1))))
       by false t =
           let no : Has w a A → ⊥ = λ h. true≢false (sym (true-has w a A h) ∙ t) in
-          stays (untouched m A k x y n no) (store-unwritten k a (xOf y m) M j (λ p q. no (inside-address M w a fits j p q)))
+          stays (untouched m A k x y n no) (to-unwritten k a (xOf y m) E r j (λ g p q. no (inside-address M w a (inside-at E w a fits r g) j p q)))
 
   pub lanes-become : (s : Space) (k : StoreOp) (x y : VReg) (n : ℕ) → first (refusalsOf (I.VStore s k x y n) m) ≡ 0 → After (I.VStore s k x y n)
   unfolding effectOf
@@ -139,8 +156,8 @@ module _ (m : State) (j : ℕ) where
       picks : Lane → Bool
       picks l = active m l && hasOf w (at l) A
 
-      fits : (l : Lane) → l .0 < N → active m l ≡ true → insideOf M w (at l) ≡ true
-      fits = all-inside-at N (active m) M w at (sym (lanes-inside m s k x y n e))
+      fits : (l : Lane) → l .0 < N → active m l ≡ true → insideOne E w (at l) ≡ true
+      fits = all-inside-at N (active m) (insideOne E w) at (sym (lanes-inside m s k x y n e))
 
       -- a lane that is not picked makes no access there
       no : (l : Lane) → picks l ≡ false → active m l ≡ true → Has w (at l) A → ⊥
@@ -151,13 +168,14 @@ module _ (m : State) (j : ℕ) where
       by : Highest picks N → After (I.VStore s k x y n)
       by (none f) =
           stays (untouched-lanes m A s k x y n (λ l t. let p = active-below m l t in no l (f l (p .0)) (p .1)))
-          (lanes-unwritten N (active m) k at (laneOf (m .vector) y) M j (λ l c t p q. no l (f l c) t (inside-address M w (at l) (fits l c t) j p q)))
+          (lanes-unwritten N (active m) k at (laneOf (m .vector) y) E r j (λ l c t g p q. no l (f l c) t (inside-address M w (at l) (inside-at E w (at l) (fits l c t) r g) j p q)))
       by (top l c t f) =
           let b = both (active m l) (hasOf w (at l) A) t in
           let h = has-true w (at l) A (b .1) in
+          let q = here w (at l) (fits l c (b .0)) h in
           byLane s k x y n l (active-of m l c (b .0)) h (λ i g u. let p = active-below m i u in no i (f i g (p .0)) (p .1))
-          (subst (λ (i : ℕ). getD (effect (effectOf (I.VStore s k x y n) m) m .bytes) i 0 ≡ byteAt k (at l) (laneOf (m .vector) y l) A) (place w (at l) (fits l c (b .0)) h)
-          (lane-stored m s k x y n e l c (b .0) (A - at l) (omega (arith, h .0, h .1))
+          (subst (λ (i : ℕ). getD (bytesAt r (effect (effectOf (I.VStore s k x y n) m) m .bytes)) i 0 ≡ byteAt k (at l) (laneOf (m .vector) y l) A) (place w (at l) (inside-at E w (at l) (fits l c (b .0)) r q) h)
+          (lane-stored m s k x y n e l c (b .0) r q (A - at l) (omega (arith, h .0, h .1))
           (λ i g d u p q. no i (f i g d) u (omega (arith, h .0), omega (arith, h .0)))))
 
 -- ---- what a byte becomes is one byte: the statement leaves no choice

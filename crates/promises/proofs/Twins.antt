@@ -1,10 +1,10 @@
 -- An instruction at two vector files: what its tests and its effect look at, lane by lane.
-use Prim.Native.Nat.{ℕ, _+_, _<_}
+use Prim.Native.Nat.{ℕ, _<_}
 use mathlib.Core.Path.{_≡_, refl, ap, ap₂, _∙_}
 use mathlib.Core.Bool.{Bool, true, not, _&&_}
 use mathlib.Core.List.{List, [], _∷_}
 use lib.Dec.{eqb}
-use lib.ListN.{getD}
+use lib.ListN.{length, getD}
 use Rattle.answer.specs.Rows.{Row, _⇒_, first}
 use Rattle.word.specs.Word.{extendOf}
 use Rattle.isa.specs.declared.Instr.{Instr}
@@ -19,6 +19,7 @@ use Rattle.lanes.specs.declared.Lane.{Lane}
 use Rattle.lanes.proofs.Laws.{lane-only, operand-only, uniform-only, value-only}
 use Rattle.lanes.proofs.MaskLaws.{wants-only}
 use Rattle.memory.specs.Memory.{sizeOf, widthOf}
+use Rattle.memory.specs.Memories.{Region, Contents, bytesAt}
 use Rattle.memory.proofs.Laws.{address-only, word-only, inside-only, store-only}
 use Rattle.warp.specs.declared.Warp.{Warp}
 use Rattle.warp.specs.Warp.{next, writeX}
@@ -26,24 +27,24 @@ use Rattle.warp.specs.Splits.{parted}
 use Rattle.definition.specs.State.{State, fixedOf, active, pcBy, memoryOf, laneAt, privateIn, elseOf}
 use Rattle.definition.specs.Refuse.{astray, accessTests, refusalsOf}
 use Rattle.definition.specs.Exec.{Effect, goes, writes, stores, effectOf, immediateOf, sourceOf, loaded}
-use Rattle.promises.specs.Lanes.{SameLane, withFile}
+use Rattle.promises.specs.Lanes.{SameLane, withFile, addressIn}
 use Rattle.promises.specs.Written.{Becomes, Gives, operation, move, scalar, number, load}
-use Rattle.promises.proofs.Stores.{scalar-becomes, lanes-become}
+use Rattle.promises.proofs.Stores.{Apart, scalar-becomes, lanes-become}
 
 module _ (m : State) (u : List ℕ) where
   -- the files are the same in every active lane
   abbrev pub Same : Type 0
   Same = (l : Lane) → l .0 < fixedOf m .numt → active m l ≡ true → SameLane l (m .vector) u
 
-  -- where no test of i holds, the bytes d are what i's store makes of those before
-  abbrev pub EffectLeaves : Instr → List ℕ → Type 0
-  EffectLeaves i d = first (refusalsOf i m) ≡ 0 → (j : ℕ) → Becomes m (memoryOf m .base + j) (getD (m .bytes) j 0) (getD d j 0) i
+  -- where no test of i holds, in memories that don't overlap, the bytes d are what i's store makes of those before
+  abbrev pub EffectLeaves : Instr → Contents → Type 0
+  EffectLeaves i d = Apart m → first (refusalsOf i m) ≡ 0 → (r : Region) (j : ℕ) → j < length (bytesAt r (m .bytes)) → Becomes m (addressIn r j m) (getD (bytesAt r (m .bytes)) j 0) (getD (bytesAt r d) j 0) i
 
   -- i's effect with the file of m, and with u
   pub data Twin (i : Instr) : Effect → Effect → Type 0 where
     moves : {a b : Warp} → (Same → a ≡ b) → Twin i (goes a) (goes b)
     gives : {r : VReg} {f g : Lane → ℕ} → ((l : Lane) → Gives m l i r (f l)) → ((l : Lane) → SameLane l (m .vector) u → f l ≡ g l) → Twin i (writes (active m) r f) (writes (active m) r g)
-    stores-both : {d e : List ℕ} → EffectLeaves i d → (Same → d ≡ e) → Twin i (stores d) (stores e)
+    stores-both : {d e : Contents} → EffectLeaves i d → (Same → d ≡ e) → Twin i (stores d) (stores e)
 
   -- and its rows
   pub record Compared (i : Instr) (rs us : List (Row Bool)) (a b : Effect) : Type 0 where
@@ -84,7 +85,7 @@ module _ (m : State) (u : List ℕ) where
   compared (I.Store k a b n) =
       record {
         rows = λ s. refl;
-        twin = stores-both (λ h j. scalar-becomes m j k a b n h) (λ s. refl);
+        twin = stores-both (λ p h r j c. scalar-becomes m p r j c k a b n h) (λ s. refl);
       }
   compared (I.OpImm o r a n) = idle
   compared (I.OpReg o r a b) = idle
@@ -117,7 +118,7 @@ module _ (m : State) (u : List ℕ) where
       record {
         rows = λ s. rows-same e a n (widthOf k) s;
         twin = stores-both
-            (λ h j. lanes-become m j e k a b n h)
+            (λ p h r j c. lanes-become m p r j c e k a b n h)
             (λ s. store-only (fixedOf m .numt) (active m) (memoryOf m) (laneAt e a n m) (laneAt e a n (withFile u m)) (λ l h t. at-same e a n l (s l h t)) k
             (laneOf (m .vector) b) (laneOf u b) (λ l h t. s l h t b));
       }

@@ -1,5 +1,5 @@
 -- What a step that was taken leaves in each byte, and in each lane's registers; vmv.x.s.
-use Prim.Native.Nat.{ℕ, _+_, _≤_, _<_}
+use Prim.Native.Nat.{ℕ, _≤_, _<_}
 use mathlib.Core.Path.{_≡_, refl, sym, ap, _∙_, subst}
 use mathlib.Core.Bool.{Bool, true, false, not, true≢false}
 use mathlib.Core.List.{List, [], _∷_}
@@ -16,6 +16,7 @@ use Rattle.isa.specs.declared.XReg.{XReg}
 use Rattle.isa.specs.declared.VReg.{VReg}
 use Rattle.lanes.specs.declared.Lane.{Lane}
 use Rattle.isa.specs.Bounds.{vectorRegisters}
+use Rattle.memory.specs.Memories.{Region, bytesAt}
 use Rattle.lanes.specs.Lanes.{lanesMax, fileWords, laneOf, valueOf, uniformOf}
 use Rattle.lanes.proofs.Laws.{write-at, write-apart, uniform-at, uniform-when}
 use Rattle.warp.specs.declared.Warp.{Warp}
@@ -23,7 +24,7 @@ use Rattle.warp.specs.Warp.{readX}
 use Rattle.warp.specs.WellFormed.{fixedOkOf, wellFormedOf}
 use Rattle.warp.specs.Facts.{FixedOk}
 use Rattle.warp.proofs.Formed.{fixed-ok}
-use Rattle.definition.specs.State.{State, fixedOf, active, memoryOf, instrAt, usedUp}
+use Rattle.definition.specs.State.{State, fixedOf, active, instrAt, usedUp}
 use Rattle.definition.specs.Refuse.{mixed, refusalsOf, stepTests}
 use Rattle.definition.specs.Exec.{Effect, goes, writes, stores, effect, effectOf}
 use Rattle.definition.specs.Step.{carriedOut, stepOf}
@@ -32,10 +33,10 @@ use Rattle.definition.proofs.Used.{tests-used}
 use Rattle.definition.proofs.Sizes.{sizes}
 use Rattle.definition.proofs.Sound.{step-clear, step-taken}
 use Rattle.definition.proofs.Tests.{step-rows}
-use Rattle.promises.specs.Lanes.{isActive, Touches, scalar, lane}
+use Rattle.promises.specs.Lanes.{isActive, addressIn, Touches, scalar, lane}
 use Rattle.promises.specs.Written as W
 use Rattle.promises.specs.Written.{Becomes, stays, Gives, Written, LaneWords, OneValue, MoveShares}
-use Rattle.promises.proofs.Stores.{active-of, active-below}
+use Rattle.promises.proofs.Stores.{Apart, active-of, active-below}
 use Rattle.promises.proofs.Used.{becomes-back, gives-other, gives-back}
 use Rattle.promises.proofs.Twins.{Twin, moves, gives, stores-both, compared}
 
@@ -51,18 +52,19 @@ unfolding effectOf
 touches-store m a i (scalar k x y n h) = refl
 touches-store m a i (lane s k x y n l t h) = refl
 
-written-by : (m : State) (u : List ℕ) (i : Instr) (a b : Effect) → effectOf i m ≡ a → first (refusalsOf i m) ≡ 0 → Twin m u i a b
-    → (j : ℕ) → Becomes m (memoryOf m .base + j) (getD (m .bytes) j 0) (getD (effect a m .bytes) j 0) i
-written-by m u i a b q z (moves e) j = stays (λ t. true≢false (sym (touches-store m _ i t) ∙ ap isStore q)) refl
-written-by m u i a b q z (gives w e) j = stays (λ t. true≢false (sym (touches-store m _ i t) ∙ ap isStore q)) refl
-written-by m u i a b q z (stores-both t e) j = t z j
+written-by : (m : State) (u : List ℕ) (i : Instr) (a b : Effect) → effectOf i m ≡ a → Apart m → first (refusalsOf i m) ≡ 0 → Twin m u i a b
+    → (r : Region) (j : ℕ) → j < length (bytesAt r (m .bytes)) → Becomes m (addressIn r j m) (getD (bytesAt r (m .bytes)) j 0) (getD (bytesAt r (effect a m .bytes)) j 0) i
+written-by m u i a b q p z (moves e) r j h = stays (λ t. true≢false (sym (touches-store m _ i t) ∙ ap isStore q)) refl
+written-by m u i a b q p z (gives w e) r j h = stays (λ t. true≢false (sym (touches-store m _ i t) ∙ ap isStore q)) refl
+written-by m u i a b q p z (stores-both t e) r j h = t p z r j h
 
 pub written : Written
-written k m z j =
+written k m z r j h =
     let i : Instr = instrAt k m in
-    subst (λ (n : State). Becomes m (memoryOf m .base + j) (getD (m .bytes) j 0) (getD (n .bytes) j 0) i) (sym (step-taken k m z))
+    let c = step-clear k m z in
+    subst (λ (n : State). Becomes m (addressIn r j m) (getD (bytesAt r (m .bytes)) j 0) (getD (bytesAt r (n .bytes)) j 0) i) (sym (step-taken k m z))
     (becomes-back noPrefix m
-    (written-by (usedUp m) (m .vector) _ _ _ refl (rw (tests-used m i) (step-clear k m z .rest)) (compared (usedUp m) (m .vector) i .twin) j))
+    (written-by (usedUp m) (m .vector) _ _ _ refl (sizes (fixedOf m) k (m .vector) (m .bytes) (c .runs) .apart) (rw (tests-used m i) (c .rest)) (compared (usedUp m) (m .vector) i .twin) r j h))
 
 -- ---- an active lane's words
 

@@ -14,6 +14,7 @@ use Rattle.isa.specs.declared.VReg.{VReg}
 use Rattle.lanes.specs.declared.Lane.{Lane}
 use Rattle.lanes.specs.Lanes.{lanesMax, laneOf}
 use Rattle.memory.specs.Memory.{widthOf}
+use Rattle.memory.specs.Memories.{Region, bytesAt, memoryAt}
 use Rattle.warp.specs.WellFormed.{wellFormedOf}
 use Rattle.definition.specs.State.{State, state, Outcome, fixedOf, active, memoryOf, scalarAt, laneAt, instrAt}
 use Rattle.definition.specs.Step.{stepOf}
@@ -40,12 +41,16 @@ allBut h l = not (eqb (l .0) (h .0))
 abbrev pub withFile : List ℕ → State → State
 withFile u m = state (m .warp) u (m .bytes)
 
--- two outcomes: one answer, one warp, one data memory, and vector files that agree in the lanes that `on` picks
+-- two outcomes: one answer, one warp, the memories' bytes the same, and vector files that agree in the lanes that `on` picks
 pub record Alike (on : Lane → Bool) (o p : Outcome) : Type 0 where
   pub code : o .code ≡ p .code
   pub warp : o .left .warp ≡ p .left .warp
   pub bytes : o .left .bytes ≡ p .left .bytes
   pub vector : Agree on (o .left .vector) (p .left .vector)
+
+-- the address of byte j of the memory r
+abbrev pub addressIn : Region → ℕ → State → ℕ
+addressIn r j m = memoryAt r (memoryOf m) .base + j
 
 -- an access of n bytes at the address b has the address a
 abbrev pub Has : ℕ → ℕ → ℕ → Type 0
@@ -66,22 +71,22 @@ ActiveMask = (m : State) → wellFormedOf (m .warp) ≡ true → (l : Lane) → 
 abbrev pub Kept : Type 0
 Kept = (k : List ℕ) (m : State) (l : Lane) → l .0 < lanesMax → isActive m l ≡ false → SameLane l (stepOf k m .left .vector) (m .vector)
 
--- no byte is written for it: every byte outside the active lanes' accesses and a scalar store's stays
+-- no byte is written for it: every byte of either memory outside the active lanes' accesses and a scalar store's stays
 abbrev pub Unwritten : Type 0
 Unwritten =
     (k : List ℕ) (m : State) →
-    (length (stepOf k m .left .bytes) ≡ length (m .bytes)) ×
-    ((j : ℕ) → (Touches m (memoryOf m .base + j) (instrAt k m) → ⊥) → getD (stepOf k m .left .bytes) j 0 ≡ getD (m .bytes) j 0)
+    (r : Region) → (length (bytesAt r (stepOf k m .left .bytes)) ≡ length (bytesAt r (m .bytes))) ×
+    ((j : ℕ) → j < length (bytesAt r (m .bytes)) → (Touches m (addressIn r j m) (instrAt k m) → ⊥) → getD (bytesAt r (stepOf k m .left .bytes)) j 0 ≡ getD (bytesAt r (m .bytes)) j 0)
 
 -- what the step does depends on the active lanes alone
 abbrev pub Unseen : Type 0
 Unseen = (k : List ℕ) (m : State) (u : List ℕ) → Agree (isActive m) (m .vector) u → Alike (isActive m) (stepOf k m) (stepOf k (withFile u m))
 
--- if an inactive lane's vector registers had held anything else, the step would give the same answer, the same warp, the same data and the same registers of every other lane
+-- if an inactive lane's vector registers had held anything else, the step would give the same answer, the same warp, the same memories and the same registers of every other lane
 abbrev pub Unfelt : Type 0
 Unfelt = (k : List ℕ) (m : State) (u : List ℕ) (h : Lane) → isActive m h ≡ false → Agree (allBut h) (m .vector) u → Alike (allBut h) (stepOf k m) (stepOf k (withFile u m))
 
--- a lane's vector registers after a step depend on that lane's before, the scalar state and the data alone: the other lanes decide no more than the answer's number
+-- a lane's vector registers after a step depend on that lane's before, the scalar state and the memories alone: the other lanes decide no more than the answer's number
 abbrev pub LaneAlone : Type 0
 LaneAlone =
     (k : List ℕ) (m : State) (u : List ℕ) → length (m .vector) ≡ length u → stepOf k m .code ≡ stepOf k (withFile u m) .code →

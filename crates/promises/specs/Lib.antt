@@ -8,3 +8,4 @@ pub mod Runs
 pub mod Refusals
 pub mod Determined
 pub mod High
+pub mod OneSpace

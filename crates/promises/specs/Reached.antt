@@ -1,9 +1,10 @@
--- What a machine reaches: an accepted launch, and then any number of taken steps, answered releases and changes by the host, over any kernel and any data.
+-- What a machine reaches: an accepted launch, and then any number of taken steps, answered releases and changes by the host, over any kernel and any memories.
 use Prim.Native.Nat.{ℕ}
 use mathlib.Core.Path.{_≡_}
 use mathlib.Core.Bool.{true}
 use mathlib.Core.List.{List}
 use lib.ListN.{length}
+use Rattle.memory.specs.Memories.{Region, Contents, bytesAt}
 use Rattle.warp.specs.declared.Launch.{Launch}
 use Rattle.warp.specs.declared.Warp.{Warp}
 use Rattle.isa.specs.Bounds.{scalarRegisters}
@@ -14,15 +15,15 @@ use Rattle.definition.specs.Refuse.{runsOkOf}
 use Rattle.definition.specs.Step.{stepOf}
 use Rattle.definition.specs.Calls.{launchOf, releaseOf}
 
--- from s on: a step that was taken; a release that was answered 0; the host changes the contents of vector file and data between two calls, and no size
+-- from s on: a step that was taken; a release that was answered 0; the host, or another warp of the group, changes the contents of vector file and memories between two calls, and no size
 pub data GoesOn (k : List ℕ) (s : State) : State → Type 0 where
   steps : {t : State} → stepOf k s ≡ outcome 0 t → GoesOn k s t
   releases : {w : Warp} → releaseOf (s .warp) ≡ answered 0 w → GoesOn k s (state w (s .vector) (s .bytes))
-  changes : {v d : List ℕ} → length v ≡ length (s .vector) → length d ≡ length (s .bytes) → GoesOn k s (state (s .warp) v d)
+  changes : {v : List ℕ} {c : Contents} → length v ≡ length (s .vector) → ((r : Region) → length (bytesAt r c) ≡ length (bytesAt r (s .bytes))) → GoesOn k s (state (s .warp) v c)
 
 -- what the launch l reaches with the kernel k
 pub data Reached (k : List ℕ) (l : Launch) : State → Type 0 where
-  launched : {s : State} (v d : List ℕ) → launchOf k l v d ≡ outcome 0 s → Reached k l s
+  launched : {s : State} (v : List ℕ) (c : Contents) → launchOf k l v c ≡ outcome 0 s → Reached k l s
   goes : {s t : State} → Reached k l s → GoesOn k s t → Reached k l t
 
 -- ---- promises

@@ -6,6 +6,7 @@ use mathlib.Core.List.{List, _∷_}
 use lib.ListN.{take, replicate}
 use Rattle.answer.specs.Rows.{first, oneOf, Iff}
 use Rattle.lanes.specs.Lanes.{fileWords}
+use Rattle.memory.specs.Memories.{Contents}
 use Rattle.warp.specs.declared.Launch.{Launch}
 use Rattle.warp.specs.declared.Warp.{Warp}
 use Rattle.warp.specs.Warp.{zeroWarp, withStop, answered}
@@ -27,7 +28,7 @@ Exactly k m i n t = Iff (stepOf k m .code ≡ n) ((first (take i (stepTests k m)
 
 -- the refusal table for a step, row by row
 pub record StepRows (k : List ℕ) (m : State) : Type 0 where
-  -- a lent run's size or a base plus length breaks the sizes
+  -- a lent run's size or a base plus length breaks the sizes, or the memories overlap
   pub row1 : Exactly k m 0 1 (not (runsOkOf (fixedOf m) k (m .vector) (m .bytes)))
   -- the state handed in isn't well formed
   pub row2 : Exactly k m 1 2 (not (wellFormedOf (m .warp)))
@@ -50,28 +51,28 @@ StepAnswers = (k : List ℕ) (m : State) → oneOf (0 ∷ stepNumbers) (stepOf k
 abbrev pub RunAnswers : Type 0
 RunAnswers = (k : List ℕ) (n : ℕ) (m : State) → oneOf (0 ∷ stepNumbers) (runOf k n m .ends .code) ≡ true
 
--- A refused step leaves the warp, the vector file and the data memory as handed in.
+-- A refused step leaves the warp, the vector file and the memories as handed in.
 abbrev pub StepKeeps : Type 0
 StepKeeps = (k : List ℕ) (m : State) → (stepOf k m .code ≡ 0 → ⊥) → stepOf k m ≡ outcome (stepOf k m .code) m
 
 -- ---- a launch and a release
 
 -- the lent runs' sizes and the launch values are in range
-abbrev pub launchFits : List ℕ → Launch → List ℕ → List ℕ → Bool
-launchFits k l v d = runsOkOf (l .fixed) k v d && launchOkOf l
+abbrev pub launchFits : List ℕ → Launch → List ℕ → Contents → Bool
+launchFits k l v c = runsOkOf (l .fixed) k v c && launchOkOf l
 
--- a launch: 1 when, and only when, a run's size, a base plus length or a launch value is out of range; else 0
-pub record LaunchRows (k : List ℕ) (l : Launch) (v d : List ℕ) : Type 0 where
-  pub row0 : Iff (launchOf k l v d .code ≡ 0) (launchFits k l v d ≡ true)
-  pub row1 : Iff (launchOf k l v d .code ≡ 1) (launchFits k l v d ≡ false)
-  pub answers : (launchOf k l v d .code ≡ 0 → ⊥) → launchOf k l v d .code ≡ 1
+-- a launch: 1 when, and only when, a run's size, a base plus length or a launch value is out of range or the memories overlap; else 0
+pub record LaunchRows (k : List ℕ) (l : Launch) (v : List ℕ) (c : Contents) : Type 0 where
+  pub row0 : Iff (launchOf k l v c .code ≡ 0) (launchFits k l v c ≡ true)
+  pub row1 : Iff (launchOf k l v c .code ≡ 1) (launchFits k l v c ≡ false)
+  pub answers : (launchOf k l v c .code ≡ 0 → ⊥) → launchOf k l v c .code ≡ 1
   -- a refused launch returns a warp of all zeros, and no lent word or byte changes
-  pub keeps : (launchOf k l v d .code ≡ 0 → ⊥) → launchOf k l v d ≡ outcome 1 (state zeroWarp v d)
-  -- an accepted one zeroes the vector file and keeps data memory as lent
-  pub gives : launchOf k l v d .code ≡ 0 → launchOf k l v d ≡ outcome 0 (state (launchedOf l) (replicate fileWords 0) d)
+  pub keeps : (launchOf k l v c .code ≡ 0 → ⊥) → launchOf k l v c ≡ outcome 1 (state zeroWarp v c)
+  -- an accepted one zeroes the vector file and keeps the memories as lent
+  pub gives : launchOf k l v c .code ≡ 0 → launchOf k l v c ≡ outcome 0 (state (launchedOf l) (replicate fileWords 0) c)
 
 abbrev pub LaunchRefusals : Type 0
-LaunchRefusals = (k : List ℕ) (l : Launch) (v d : List ℕ) → LaunchRows k l v d
+LaunchRefusals = (k : List ℕ) (l : Launch) (v : List ℕ) (c : Contents) → LaunchRows k l v c
 
 -- a release: 2 where the warp isn't well formed; then 12 where it doesn't wait; else 0
 pub record ReleaseRows (w : Warp) : Type 0 where

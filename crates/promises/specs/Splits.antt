@@ -1,4 +1,4 @@
--- Demand 3, the splits: over reached states, and over taken steps, answered releases and the host's changes of vector file and data.
+-- Demand 3, the splits: over reached states, and over taken steps, answered releases and the host's changes of vector file and memories.
 use Prim.Native.Nat.{ℕ, _+_, _≤_, _<_}
 use mathlib.Core.Path.{_≡_}
 use mathlib.Core.List.{List}

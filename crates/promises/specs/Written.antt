@@ -1,5 +1,5 @@
--- What a step that was taken leaves: each byte of data, each word of an active lane, and what 'one value' of the active lanes is.
-use Prim.Native.Nat.{ℕ, _+_, _-_, _<_}
+-- What a step that was taken leaves: each byte of the memories, each word of an active lane, and what 'one value' of the active lanes is.
+use Prim.Native.Nat.{ℕ, _-_, _<_}
 use mathlib.Core.Path.{_≡_}
 use mathlib.Core.Bool.{true, false}
 use mathlib.Core.List.{List}
@@ -20,13 +20,14 @@ use Rattle.lanes.specs.declared.Lane.{Lane}
 use Rattle.isa.specs.Bounds.{vectorRegisters}
 use Rattle.lanes.specs.Lanes.{laneOf, operandOf, valueOf}
 use Rattle.memory.specs.Bytes.{leBytes}
-use Rattle.memory.specs.Memory.{widthOf, loadOf}
+use Rattle.memory.specs.Memory.{widthOf}
+use Rattle.memory.specs.Memories.{Region, bytesAt, loadFrom}
 use Rattle.warp.specs.Warp.{readX}
 use Rattle.definition.specs.State.{State, fixedOf, active, xOf, memoryOf, scalarAt, laneAt, instrAt}
 use Rattle.definition.specs.Refuse.{mixed, stepTests}
 use Rattle.definition.specs.Exec.{immediateOf, sourceOf}
 use Rattle.definition.specs.Step.{stepOf}
-use Rattle.promises.specs.Lanes.{isActive, Has, Touches}
+use Rattle.promises.specs.Lanes.{isActive, addressIn, Has, Touches}
 
 -- ---- bytes
 
@@ -51,7 +52,7 @@ pub data Gives (m : State) (l : Lane) : Instr → VReg → ℕ → Type 0 where
   move : (r : VReg) (s : Source) → Gives m l (I.VMove r s) r (operandOf (m .vector) (sourceOf extendOf s m) l)
   scalar : (r : VReg) (a : XReg) → Gives m l (I.VMoveSX r a) r (xOf a m)
   number : (r : VReg) → Gives m l (I.Vid r) r (l .0)
-  load : (s : Space) (k : LoadOp) (r a : VReg) (n : ℕ) → Gives m l (I.VLoad s k r a n) r (loadOf k (memoryOf m) (laneAt s a n m l))
+  load : (s : Space) (k : LoadOp) (r a : VReg) (n : ℕ) → Gives m l (I.VLoad s k r a n) r (loadFrom k (memoryOf m) (laneAt s a n m l))
 
 -- lane l's words in the vector file v, after the instruction: what it gives, and every other word as before
 pub record LaneLeft (m : State) (i : Instr) (l : Lane) (v : List ℕ) : Type 0 where
@@ -64,11 +65,11 @@ AllEqual m f = (l h : Lane) → isActive m l ≡ true → isActive m h ≡ true 
 
 -- ---- promises
 
--- Each byte of data after a taken step.
+-- Each byte of either memory after a taken step.
 abbrev pub Written : Type 0
 Written =
-    (k : List ℕ) (m : State) → stepOf k m .code ≡ 0 → (j : ℕ)
-    → Becomes m (memoryOf m .base + j) (getD (m .bytes) j 0) (getD (stepOf k m .left .bytes) j 0) (instrAt k m)
+    (k : List ℕ) (m : State) → stepOf k m .code ≡ 0 → (r : Region) (j : ℕ) → j < length (bytesAt r (m .bytes))
+    → Becomes m (addressIn r j m) (getD (bytesAt r (m .bytes)) j 0) (getD (bytesAt r (stepOf k m .left .bytes)) j 0) (instrAt k m)
 
 -- Each active lane's words after a taken step. (An inactive lane's are kept: Kept.)
 abbrev pub LaneWords : Type 0

@@ -14,6 +14,7 @@ use Rattle.isa.specs.Kinds.{rowOf}
 use Rattle.layout.specs.Words.{flatCount, warpOf}
 use Rattle.running.specs.Goes.{Goes}
 use Rattle.definition.specs.Refuse.{refusalsOf}
+use Rattle.memory.specs.Memories.{Contents}
 use Rattle.definition.specs.Exec.{goes, effectOf}
 use Rattle.definition.specs.Step.{execOf}
 use Rattle.handlers.specs.Handles.{lists, Handles, putsIn}
@@ -24,7 +25,7 @@ module _ (k w : ℕ) (o : Op) where
       (y c : ℕ) (h x h' x' : List ℕ) → rowOf k (fieldsOf w) ≡ opAs o (fieldsOf w)
       → y ≡ applyOf o (getD x (xs1In w .0) 0) (getD x (xs2In w .0) 0)
       → (c ≡ 0) × ((g s : List ℕ) → length s ≡ flatCount → Goes (putsIn (xdIn w) y) g h x s h' x' s)
-      → (g s v d : List ℕ) → length s ≡ flatCount → Handles (execOf (wideOf k w)) c (lists g h x s v d) (lists g h' x' s v d)
+      → (g s v : List ℕ) (d : Contents) → length s ≡ flatCount → Handles (execOf (wideOf k w)) c (lists g h x s v d) (lists g h' x' s v d)
   unfolding warpOf effectOf refusalsOf
   reg-arm y c h x h' x' e ey q g s v d n =
       told (ap (onFields (numbersIn w)) e) (given (I.OpReg o (xdIn w) (xs1In w) (xs2In w)) (xdIn w) y c g h x s v d h' x' (q .0) (q .1 g s n) refl
@@ -34,7 +35,7 @@ module _ (k w : ℕ) (o : Op) where
       (m y c : ℕ) (h x h' x' : List ℕ) → rowOf k (fieldsOf w) ≡ I.OpImm o (xOf (fieldsOf w .rd)) (xOf (fieldsOf w .rs1)) m
       → y ≡ applyOf o (getD x (xs1In w .0) 0) (extendOf 12 m)
       → (c ≡ 0) × ((g s : List ℕ) → length s ≡ flatCount → Goes (putsIn (xdIn w) y) g h x s h' x' s)
-      → (g s v d : List ℕ) → length s ≡ flatCount → Handles (execOf (wideOf k w)) c (lists g h x s v d) (lists g h' x' s v d)
+      → (g s v : List ℕ) (d : Contents) → length s ≡ flatCount → Handles (execOf (wideOf k w)) c (lists g h x s v d) (lists g h' x' s v d)
   unfolding warpOf effectOf refusalsOf
   imm-arm m y c h x h' x' e ey q g s v d n =
       told (ap (onFields (numbersIn w)) e) (given (I.OpImm o (xdIn w) (xs1In w) m) (xdIn w) y c g h x s v d h' x' (q .0) (q .1 g s n) refl

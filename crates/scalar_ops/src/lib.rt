@@ -16,13 +16,14 @@ ghost use Rattle.isa.specs.Table.{wordAt};
 ghost use Rattle.isa.specs.Kinds.{ofSums, ofProducts, ofImmediates, instrOf};
 ghost use Rattle.isa.specs.Wide.{wideOf};
 ghost use Rattle.layout.specs.Words.{movingCount, flatCount};
+ghost use Rattle.memory.specs.Memories.{Contents};
 ghost use Rattle.definition.specs.Step.{execOf};
 ghost use Rattle.handlers.specs.Handles.{lists, Handles};
 
 // An operation on a scalar register and an immediate, or no row at all.
 fn op_imm(h: &mut [u32; MOVING], x: &mut [u32; SCALARS], kind: u32, w: u64) -> u32
     requires { ⌜ (length (now h) ≡ movingCount) × (instrOf kind w ≡ wordAt (fieldsOf w) kind ofImmediates) ⌝ }
-    ensures { λ c. ⌜ ((g s v d : List ℕ) → length s ≡ flatCount → Handles (execOf (wideOf kind w)) c (lists g (now (h .entry)) (now (x .entry)) s v d) (lists g (now (h .exit)) (now (x .exit)) s v d)) ⌝ }
+    ensures { λ c. ⌜ ((g s v : List ℕ) (d : Contents) → length s ≡ flatCount → Handles (execOf (wideOf kind w)) c (lists g (now (h .entry)) (now (x .entry)) s v d) (lists g (now (h .exit)) (now (x .exit)) s v d)) ⌝ }
 {
     match kind {
         kinds::ADDI => gives(word::add(first(x, w), immediate(w)), h, x, w),
@@ -41,7 +42,7 @@ fn op_imm(h: &mut [u32; MOVING], x: &mut [u32; SCALARS], kind: u32, w: u64) -> u
 // A product, a quotient or a remainder of two scalar registers.
 fn op_mul(h: &mut [u32; MOVING], x: &mut [u32; SCALARS], kind: u32, w: u64) -> u32
     requires { ⌜ (length (now h) ≡ movingCount) × (instrOf kind w ≡ wordAt (fieldsOf w) kind (ofProducts ++ ofImmediates)) ⌝ }
-    ensures { λ c. ⌜ ((g s v d : List ℕ) → length s ≡ flatCount → Handles (execOf (wideOf kind w)) c (lists g (now (h .entry)) (now (x .entry)) s v d) (lists g (now (h .exit)) (now (x .exit)) s v d)) ⌝ }
+    ensures { λ c. ⌜ ((g s v : List ℕ) (d : Contents) → length s ≡ flatCount → Handles (execOf (wideOf kind w)) c (lists g (now (h .entry)) (now (x .entry)) s v d) (lists g (now (h .exit)) (now (x .exit)) s v d)) ⌝ }
 {
     match kind {
         kinds::MUL => gives(word::mul(first(x, w), second(x, w)), h, x, w),
@@ -59,7 +60,7 @@ fn op_mul(h: &mut [u32; MOVING], x: &mut [u32; SCALARS], kind: u32, w: u64) -> u
 // Another operation on two scalar registers.
 pub fn op_reg(h: &mut [u32; MOVING], x: &mut [u32; SCALARS], kind: u32, w: u64) -> u32
     requires { ⌜ (length (now h) ≡ movingCount) × (instrOf kind w ≡ wordAt (fieldsOf w) kind (ofSums ++ ofProducts ++ ofImmediates)) ⌝ }
-    ensures { λ c. ⌜ ((g s v d : List ℕ) → length s ≡ flatCount → Handles (execOf (wideOf kind w)) c (lists g (now (h .entry)) (now (x .entry)) s v d) (lists g (now (h .exit)) (now (x .exit)) s v d)) ⌝ }
+    ensures { λ c. ⌜ ((g s v : List ℕ) (d : Contents) → length s ≡ flatCount → Handles (execOf (wideOf kind w)) c (lists g (now (h .entry)) (now (x .entry)) s v d) (lists g (now (h .exit)) (now (x .exit)) s v d)) ⌝ }
 {
     match kind {
         kinds::ADD => gives(word::add(first(x, w), second(x, w)), h, x, w),

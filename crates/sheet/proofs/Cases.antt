@@ -9,6 +9,7 @@ use lib.ListN.{length, drop}
 use lib.Seq.{sets, length-sets}
 use borrow.Author.Tests.{eq-eqb, ne-eqb, le-leb, lt-leb}
 use Rattle.answer.specs.Rows.{Row, _⇒_, first}
+use Rattle.memory.specs.Memories.{alone}
 use Rattle.warp.specs.declared.Launch.{Launch}
 use Rattle.warp.specs.WellFormed.{launchOkOf}
 use Rattle.definition.specs.State.{State, Outcome}
@@ -70,11 +71,11 @@ module _ (k : List ℕ) (l : Launch) (v d : List ℕ) where
 
   -- the tests of a launch, before the rows rs
   module _ (rs : List (Row Bool)) where
-    fails : (runsOkOf (l .fixed) k v d && launchOkOf l) ≡ false → first (launchTests k l v d ++ rs) ≡ 1
-    fails a = launch-fails (runsOkOf (l .fixed) k v d) (launchOkOf l) rs a
+    fails : (runsOkOf (l .fixed) k v (alone d) && launchOkOf l) ≡ false → first (launchTests k l v (alone d) ++ rs) ≡ 1
+    fails a = launch-fails (runsOkOf (l .fixed) k v (alone d)) (launchOkOf l) rs a
 
-    passes : (runsOkOf (l .fixed) k v d && launchOkOf l) ≡ true → first (launchTests k l v d ++ rs) ≡ first rs
-    passes a = launch-passes (runsOkOf (l .fixed) k v d) (launchOkOf l) rs a
+    passes : (runsOkOf (l .fixed) k v (alone d) && launchOkOf l) ≡ true → first (launchTests k l v (alone d) ++ rs) ≡ first rs
+    passes a = launch-passes (runsOkOf (l .fixed) k v (alone d)) (launchOkOf l) rs a
 
   -- ---- what a trace of the run leaves
 
@@ -87,7 +88,7 @@ module _ (k : List ℕ) (l : Launch) (v d : List ℕ) where
     unfolding lentRunsOf
     left-still z =
         let e = run-left k (ownStart k l v d) (sym (r .count) ∙ z) in
-        ap₂ lentRuns (r .vector ∙ ap (λ (m : State). m .vector) e) (r .bytes ∙ ap (λ (m : State). m .bytes) e)
+        ap₂ lentRuns (r .vector ∙ ap (λ (m : State). m .vector) e) (r .bytes ∙ ap (λ (m : State). m .bytes .dataBytes) e)
 
     steps-none : n ≡ 0 → noSteps k l v d ≡ true
     unfolding ownOf
@@ -113,11 +114,11 @@ module _ (k : List ℕ) (l : Launch) (v d : List ℕ) where
     unfolding markOf
     mark-refused c z h e f = rw (f, h, ne-eqb c 0 z)
 
-    pub mark-launch : (runsOkOf (l .fixed) k v d && launchOkOf l) ≡ false → marking 1 NoMarks 0 (lentRuns v d) ≡ markOf k l v d s
+    pub mark-launch : (runsOkOf (l .fixed) k v (alone d) && launchOkOf l) ≡ false → marking 1 NoMarks 0 (lentRuns v d) ≡ markOf k l v d s
     unfolding lentRunsOf
     mark-launch a = mark-refused 1 (λ z. omega arith) (fails markRows a) (lentRuns v d) refl
 
-    module _ (a : (runsOkOf (l .fixed) k v d && launchOkOf l) ≡ true) where
+    module _ (a : (runsOkOf (l .fixed) k v (alone d) && launchOkOf l) ≡ true) where
       pub mark-sheet : sheetOkOf s ≡ false → marking 16 NoMarks 0 (lentRuns v d) ≡ markOf k l v d s
       unfolding lentRunsOf
       mark-sheet b = mark-refused 16 (λ z. omega arith) (passes markRows a ∙ rw b) (lentRuns v d) refl
@@ -142,11 +143,11 @@ module _ (k : List ℕ) (l : Launch) (v d : List ℕ) where
     unfolding modelOf
     model-refused c z h e f = rw (f, h, ne-eqb c 0 z)
 
-    pub model-launch : (runsOkOf (l .fixed) k v d && launchOkOf l) ≡ false → modelling 1 0 t (lentRuns v d) ≡ modelOf k l v d t
+    pub model-launch : (runsOkOf (l .fixed) k v (alone d) && launchOkOf l) ≡ false → modelling 1 0 t (lentRuns v d) ≡ modelOf k l v d t
     unfolding lentRunsOf
     model-launch a = model-refused 1 (λ z. omega arith) (fails modelRows a) (lentRuns v d) refl
 
-    module _ (a : (runsOkOf (l .fixed) k v d && launchOkOf l) ≡ true) where
+    module _ (a : (runsOkOf (l .fixed) k v (alone d) && launchOkOf l) ≡ true) where
       pub model-room : length t < sheetRoom → modelling 1 0 t (lentRuns v d) ≡ modelOf k l v d t
       unfolding lentRunsOf
       model-room b = model-refused 1 (λ z. omega arith) (passes modelRows a ∙ rw (lt-leb _ _ b)) (lentRuns v d) refl

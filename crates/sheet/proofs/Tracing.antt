@@ -7,6 +7,7 @@ use lib.ListN.{length, getD, length-append}
 use lib.Seq.{sets, append-snoc}
 use Rattle.text.proofs.Laws.{sets-append}
 use Rattle.big_endian.specs.Layout.{bytesOf}
+use Rattle.memory.specs.Memories.{Data}
 use Rattle.definition.specs.State.{State, Outcome, placeOf}
 use Rattle.definition.specs.Step.{stepOf}
 use Rattle.definition.specs.Calls.{Ran, ran, stepsOf, runOf}
@@ -30,7 +31,7 @@ pub record Tracing (k : List ℕ) (a b : State) (n : ℕ) (t u : List ℕ) : Typ
   pub text : u ≡ sets t headSize (flatten done)
   pub goes : stepsOf k stepLimit 0 a ≡ stepsOf k (stepLimit - n) n b
   pub vector : length (b .vector) ≡ length (a .vector)
-  pub bytes : length (b .bytes) ≡ length (a .bytes)
+  pub bytes : length (b .bytes .dataBytes) ≡ length (a .bytes .dataBytes)
 
 pub tracing-start : (k : List ℕ) (a : State) (t : List ℕ) → Tracing k a a 0 t t
 unfolding flatten
@@ -54,7 +55,7 @@ module _ (k : List ℕ) (n : ℕ) (m : State) where
 
 module _ (k : List ℕ) (a b : State) (n : ℕ) (t u : List ℕ) (r : Tracing k a b n t u) where
   -- where the rest of the lines is empty, and the rest of the run leaves what q does
-  ended : (q : Ran) → linesOf k (stepLimit - n) b ≡ [] → stepsOf k (stepLimit - n) n b ≡ q → Traces k a n (q .ends .left .vector) (q .ends .left .bytes) t u
+  ended : (q : Ran) → linesOf k (stepLimit - n) b ≡ [] → stepsOf k (stepLimit - n) n b ≡ q → Traces k a n (q .ends .left .vector) (q .ends .left .bytes .dataBytes) t u
   ended q h s =
       let e : linesOf k stepLimit a ≡ r .done = r .lines ∙ ap (λ (x : List (List ℕ)). r .done ++ x) h ∙ append-nil (r .done) in
       let f : runOf k stepLimit a ≡ q = run-counted k 4095 a ∙ r .goes ∙ s in
@@ -63,18 +64,18 @@ module _ (k : List ℕ) (a b : State) (n : ℕ) (t u : List ℕ) (r : Tracing k 
         count = sym (ap length e ∙ r .long);
         lines = r .text ∙ ap (λ (x : List (List ℕ)). sets t headSize (flatten x)) (sym e);
         vector = ap (λ (x : Ran). x .ends .left .vector) (sym f);
-        bytes = ap (λ (x : Ran). x .ends .left .bytes) (sym f);
+        bytes = ap (λ (x : Ran). x .ends .left .bytes .dataBytes) (sym f);
       }
 
-  pub tracing-end : stepLimit ≤ n → Traces k a n (b .vector) (b .bytes) t u
+  pub tracing-end : stepLimit ≤ n → Traces k a n (b .vector) (b .bytes .dataBytes) t u
   tracing-end h = ended _ (lines-end k n b h) (steps-end k stepLimit n b h)
 
   -- a step from such a turn
   module _ (l : n < stepLimit) (o : Outcome) (e : o ≡ stepOf k b) where
-    pub step-lengths : (length (o .left .vector) ≡ length (a .vector)) × (length (o .left .bytes) ≡ length (a .bytes))
-    step-lengths = rw e (step-within k b .words ∙ r .vector, step-within k b .size ∙ r .bytes)
+    pub step-lengths : (length (o .left .vector) ≡ length (a .vector)) × (length (o .left .bytes .dataBytes) ≡ length (a .bytes .dataBytes))
+    step-lengths = rw e (step-within k b .words ∙ r .vector, step-within k b .size Data ∙ r .bytes)
 
-    pub tracing-stop : (o .code ≡ 0 → ⊥) → Traces k a n (o .left .vector) (o .left .bytes) t u
+    pub tracing-stop : (o .code ≡ 0 → ⊥) → Traces k a n (o .left .vector) (o .left .bytes .dataBytes) t u
     tracing-stop z =
         let y : stepOf k b .code ≡ 0 → ⊥ = λ h. z (ap (λ (x : Outcome). x .code) e ∙ h) in
         rw e (ended _ (lines-stop k n b l y) (steps-stop k stepLimit n b l y))

@@ -6,6 +6,7 @@ use lib.Dec.{eqb, leb}
 use lib.ListN.{length}
 use lib.Seq.{sets}
 use Rattle.answer.specs.Rows.{Row, _⇒_, first}
+use Rattle.memory.specs.Memories.{alone}
 use Rattle.warp.specs.declared.Launch.{Launch}
 use Rattle.definition.specs.State.{State}
 use Rattle.definition.specs.Refuse.{launchTests}
@@ -19,7 +20,7 @@ use Rattle.sheet_lines.specs.Compare.{compareOf}
 
 -- from the state that the launch leaves, to the first refusal or 4,096 steps
 abbrev pub ownStart : List ℕ → Launch → List ℕ → List ℕ → State
-ownStart k l v d = launchOf k l v d .left
+ownStart k l v d = launchOf k l v (alone d) .left
 
 unfoldable pub ownOf : List ℕ → Launch → List ℕ → List ℕ → List (List ℕ)
 ownOf k l v d = linesOf k stepLimit (ownStart k l v d)
@@ -44,7 +45,7 @@ unfoldable pub lentRunsOf : ℕ → List ℕ → Launch → List ℕ → List �
 lentRunsOf n k l v d =
     let e : State = ownEnd k l v d in
     let m : State = ownStart k l v d in
-    cond (eqb n 0) (lentRuns (e .vector) (e .bytes)) (cond (eqb n 17) (lentRuns (m .vector) (m .bytes)) (lentRuns v d))
+    cond (eqb n 0) (lentRuns (e .vector) (e .bytes .dataBytes)) (cond (eqb n 17) (lentRuns (m .vector) (m .bytes .dataBytes)) (lentRuns v d))
 
 -- ---- marking a sheet s
 
@@ -59,7 +60,7 @@ abbrev pub marking : ℕ → Marks → ℕ → LentRuns → Marking
 marking n a t e = record { number = n; marks = a; steps = t; left = e }
 
 abbrev pub markTests : List ℕ → Launch → List ℕ → List ℕ → List ℕ → List (Row Bool)
-markTests k l v d s = launchTests k l v d ++ (16 ⇒ not (sheetOkOf s) ∷ 17 ⇒ noSteps k l v d ∷ [])
+markTests k l v d s = launchTests k l v (alone d) ++ (16 ⇒ not (sheetOkOf s) ∷ 17 ⇒ noSteps k l v d ∷ [])
 
 -- refused: no marks, no steps
 unfoldable pub markOf : List ℕ → Launch → List ℕ → List ℕ → List ℕ → Marking
@@ -86,7 +87,7 @@ abbrev pub sheetRoom : ℕ
 sheetRoom = sheetSize stepLimit
 
 abbrev pub modelTests : List ℕ → Launch → List ℕ → List ℕ → List ℕ → List (Row Bool)
-modelTests k l v d t = launchTests k l v d ++ (1 ⇒ not (leb sheetRoom (length t)) ∷ 17 ⇒ noSteps k l v d ∷ [])
+modelTests k l v d t = launchTests k l v (alone d) ++ (1 ⇒ not (leb sheetRoom (length t)) ∷ 17 ⇒ noSteps k l v d ∷ [])
 
 -- refused: nothing is written; the bytes past the sheet stay
 unfoldable pub modelOf : List ℕ → Launch → List ℕ → List ℕ → List ℕ → Modelling

@@ -14,4 +14,4 @@ pub record Traces (k : List ℕ) (m : State) (n : ℕ) (v d t u : List ℕ) : Ty
   pub count : n ≡ length (linesOf k stepLimit m)
   pub lines : u ≡ sets t headSize (flatten (linesOf k stepLimit m))
   pub vector : v ≡ runOf k stepLimit m .ends .left .vector
-  pub bytes : d ≡ runOf k stepLimit m .ends .left .bytes
+  pub bytes : d ≡ runOf k stepLimit m .ends .left .bytes .dataBytes

@@ -13,6 +13,7 @@ ghost use mathlib.Core.Bool.{_&&_};
 ghost use Prim.Native.Nat.{_≤_};
 ghost use lib.ListN.{length};
 ghost use Rattle.answer.specs.Answer.{numberOf};
+ghost use Rattle.memory.specs.Memories.{alone};
 ghost use Rattle.warp.specs.WellFormed.{launchOkOf};
 ghost use Rattle.definition.specs.State.{state};
 ghost use Rattle.definition.specs.Refuse.{runsOkOf};
@@ -37,7 +38,7 @@ pub struct Modelled {
 // At most 4,096 steps from the warp on, each one's line put into `t`; answers how many were taken. A step is a run of one step: the loop over steps has one caller.
 fn trace(start: Warp, kernel: &[u32], vector: &mut [u32], bytes: &mut [u8], t: &mut [u8]) -> usize
     requires { ⌜ sheetRoom ≤ length (now t) ⌝ }
-    ensures { λ r. ⌜ Traces (now (kernel .entry)) (state start (now (vector .entry)) (now (bytes .entry))) r (now (vector .exit)) (now (bytes .exit)) (now (t .entry)) (now (t .exit)) ⌝ }
+    ensures { λ r. ⌜ Traces (now (kernel .entry)) (state start (now (vector .entry)) (alone (now (bytes .entry)))) r (now (vector .exit)) (now (bytes .exit)) (now (t .entry)) (now (t .exit)) ⌝ }
 {
     let mut w = start;
     let mut n = 0;
@@ -58,10 +59,11 @@ fn trace(start: Warp, kernel: &[u32], vector: &mut [u32], bytes: &mut [u8], t: &
 
 // A launch's own tests.
 fn may_launch(l: Launch, kernel: &[u32], vector: &[u32], bytes: &[u8]) -> bool
-    ensures { λ r. ⌜ r ≡ (runsOkOf (l .fixed) (now (kernel .entry)) (now (vector .entry)) (now (bytes .entry)) && launchOkOf l) ⌝ }
+    ensures { λ r. ⌜ r ≡ (runsOkOf (l .fixed) (now (kernel .entry)) (now (vector .entry)) (alone (now (bytes .entry))) && launchOkOf l) ⌝ }
 {
+    let none = [0u8; 0];
     let f = l.fixed;
-    drive::runs_ok(f, kernel, vector, bytes) & warp::launch_ok(l)
+    drive::runs_ok(f, kernel, vector, bytes, &none) & warp::launch_ok(l)
 }
 
 // The run from a launch that is not refused.

@@ -14,6 +14,7 @@ use Rattle.answer.specs.Rows.{_⇒_, first, Iff}
 use Rattle.answer.proofs.Rows.{both, passed}
 use Rattle.answer.proofs.Numbers.{number-one}
 use Rattle.lanes.specs.Lanes.{fileWords}
+use Rattle.memory.specs.Memories.{alone}
 use Rattle.warp.proofs.SplitLaws.{by-cond}
 use Rattle.warp.specs.declared.Launch.{Launch}
 use Rattle.warp.specs.WellFormed.{launchOkOf}
@@ -81,7 +82,7 @@ others-by true true true false y z = absurd (y refl)
 
 module _ (k : List ℕ) (l : Launch) (v d : List ℕ) where
   abbrev sizes : Bool
-  sizes = runsOkOf (l .fixed) k v d
+  sizes = runsOkOf (l .fixed) k v (alone d)
 
   abbrev own : List (List ℕ)
   own = ownOf k l v d
@@ -89,15 +90,15 @@ module _ (k : List ℕ) (l : Launch) (v d : List ℕ) where
   abbrev none : Bool
   none = noSteps k l v d
 
-  launch-number : launchOf k l v d .code ≡ launchNumber sizes (launchOkOf l)
+  launch-number : launchOf k l v (alone d) .code ≡ launchNumber sizes (launchOkOf l)
   unfolding launchOf
   launch-number = refl
 
   -- what a launch that isn't refused leaves
-  launched : launchOf k l v d .code ≡ 0 → launchOf k l v d ≡ outcome 0 (state (launchedOf l) (replicate fileWords 0) d)
+  launched : launchOf k l v (alone d) .code ≡ 0 → launchOf k l v (alone d) ≡ outcome 0 (state (launchedOf l) (replicate fileWords 0) (alone d))
   launched z =
       let y = sym launch-number ∙ z in
-      launch-done k l v d (passed [] (1 ⇒ not (launchOkOf l) ∷ []) 1 sizes refl y) (passed (1 ⇒ not sizes ∷ []) [] 1 (launchOkOf l) refl y)
+      launch-done k l v (alone d) (passed [] (1 ⇒ not (launchOkOf l) ∷ []) 1 sizes refl y) (passed (1 ⇒ not sizes ∷ []) [] 1 (launchOkOf l) refl y)
 
   own-sized : Lines own
   unfolding ownOf
@@ -108,14 +109,14 @@ module _ (k : List ℕ) (l : Launch) (v d : List ℕ) where
   own-few = lines-few k stepLimit (ownStart k l v d)
 
   -- the number n, and what is left
-  leaves : (n : ℕ) (e : LentRuns) → e ≡ lentRunsOf n k l v d → (n ≡ 17 → launchOf k l v d .code ≡ 0) → LeftBy k l v d n e
+  leaves : (n : ℕ) (e : LentRuns) → e ≡ lentRunsOf n k l v d → (n ≡ 17 → launchOf k l v (alone d) .code ≡ 0) → LeftBy k l v d n e
   unfolding lentRunsOf ownEnd
   leaves n e is h =
       record {
         done = λ z. is ∙ ap (λ (i : ℕ). lentRunsOf i k l v d) z;
         size = λ z. is ∙ ap (λ (i : ℕ). lentRunsOf i k l v d) z;
         sheet = λ z. is ∙ ap (λ (i : ℕ). lentRunsOf i k l v d) z;
-        none = λ z. is ∙ ap (λ (i : ℕ). lentRunsOf i k l v d) z ∙ ap (λ (o : Outcome). lentRuns (o .left .vector) (o .left .bytes)) (launched (h z));
+        none = λ z. is ∙ ap (λ (i : ℕ). lentRunsOf i k l v d) z ∙ ap (λ (o : Outcome). lentRuns (o .left .vector) (o .left .bytes .dataBytes)) (launched (h z));
       }
 
   -- ---- marking the sheet s
@@ -146,10 +147,10 @@ module _ (k : List ℕ) (l : Launch) (v d : List ℕ) where
     pub refused-unmarked : (marked .number ≡ 0 → ⊥) → marked .marks ≡ NoMarks
     refused-unmarked z = ap (λ (r : Marking). r .marks) (mark-refused markNumber (λ y. z (mark-number ∙ y)) refl)
 
-    mark-zero : Iff (marked .number ≡ 0) ((launchOf k l v d .code ≡ 0) × (sheetOkOf s ≡ true) × (none ≡ false))
+    mark-zero : Iff (marked .number ≡ 0) ((launchOf k l v (alone d) .code ≡ 0) × (sheetOkOf s ≡ true) × (none ≡ false))
     mark-zero = rw (mark-number, launch-number) (zero-by 16 (λ z. omega arith) sizes (launchOkOf l) (sheetOkOf s) none)
 
-    mark-sheet : Iff (marked .number ≡ 16) ((launchOf k l v d .code ≡ 0) × (sheetOkOf s ≡ false))
+    mark-sheet : Iff (marked .number ≡ 16) ((launchOf k l v (alone d) .code ≡ 0) × (sheetOkOf s ≡ false))
     mark-sheet = rw (mark-number, launch-number) (sheet-by sizes (launchOkOf l) (sheetOkOf s) none)
 
     full-number : marked .marks ≡ Full → marked .number ≡ 0
@@ -166,7 +167,7 @@ module _ (k : List ℕ) (l : Launch) (v d : List ℕ) where
         (sheet-says s (q .1) .total ∙ ap sheetSize (sym n), eqb-false _ _ (q .2))
 
   -- the model sheet gets full marks
-  own-full : launchOf k l v d .code ≡ 0 → none ≡ false → markOf k l v d (sheetOf own) .marks ≡ Full
+  own-full : launchOf k l v (alone d) .code ≡ 0 → none ≡ false → markOf k l v d (sheetOf own) .marks ≡ Full
   own-full z e =
       mark-taken (sheetOf own) (mark-zero (sheetOf own) .1 (z, sheet-formed own own-sized own-few, e))
       ∙ says own (linesIn (sheetOf own)) .full .1 (sym (sheet-lines own own-sized own-few))
@@ -191,7 +192,7 @@ module _ (k : List ℕ) (l : Launch) (v d : List ℕ) where
     unfolding modelOf
     model-left = by-cond (λ (r : Modelling). r .left ≡ lentRunsOf (r .number) k l v d) (eqb modelNumber 0) _ _ (λ z. refl) (λ z. refl)
 
-    model-zero : Iff (modelled .number ≡ 0) ((launchOf k l v d .code ≡ 0) × (room ≡ true) × (none ≡ false))
+    model-zero : Iff (modelled .number ≡ 0) ((launchOf k l v (alone d) .code ≡ 0) × (room ≡ true) × (none ≡ false))
     model-zero = rw (model-number, launch-number) (zero-by 1 (λ z. omega arith) sizes (launchOkOf l) room none)
 
     pub model-unwritten : (modelled .number ≡ 0 → ⊥) → modelled .written ≡ 0

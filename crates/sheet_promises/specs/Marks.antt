@@ -7,6 +7,7 @@ use lib.ListN.{length, take, drop, replicate}
 use Rattle.answer.specs.Answer.{numberOf}
 use Rattle.answer.specs.Rows.{Iff}
 use Rattle.lanes.specs.Lanes.{fileWords}
+use Rattle.memory.specs.Memories.{alone}
 use Rattle.warp.specs.declared.Launch.{Launch}
 use Rattle.definition.specs.State.{State}
 use Rattle.definition.specs.Calls.{launchOf, runOf}
@@ -37,7 +38,7 @@ ModelFull = (k : List ℕ) (l : Launch) (v d t : List ℕ) → modelOf k l v d t
 
 -- An empty file is refused with 16 wherever the launch isn't refused, and never gets full marks.
 abbrev pub EmptyRefused : Type 0
-EmptyRefused = (k : List ℕ) (l : Launch) (v d : List ℕ) → launchOf k l v d .code ≡ 0 → markOf k l v d [] ≡ marking 16 NoMarks 0 (lentRuns v d)
+EmptyRefused = (k : List ℕ) (l : Launch) (v d : List ℕ) → launchOf k l v (alone d) .code ≡ 0 → markOf k l v d [] ≡ marking 16 NoMarks 0 (lentRuns v d)
 
 abbrev pub EmptyNever : Type 0
 EmptyNever = (k : List ℕ) (l : Launch) (v d : List ℕ) → markOf k l v d [] .marks ≡ Full → ⊥
@@ -85,17 +86,17 @@ MarkSays = (k : List ℕ) (l : Launch) (v d s : List ℕ) → markOf k l v d s .
 -- ---- each number, when and only when
 
 pub record MarkNumbers (k : List ℕ) (l : Launch) (v d s : List ℕ) : Type 0 where
-  pub done : Iff (markOf k l v d s .number ≡ 0) ((launchOf k l v d .code ≡ 0) × (sheetOkOf s ≡ true) × (noSteps k l v d ≡ false))
-  pub size : Iff (markOf k l v d s .number ≡ 1) (launchOf k l v d .code ≡ 1)
-  pub sheet : Iff (markOf k l v d s .number ≡ 16) ((launchOf k l v d .code ≡ 0) × (sheetOkOf s ≡ false))
-  pub none : Iff (markOf k l v d s .number ≡ 17) ((launchOf k l v d .code ≡ 0) × (sheetOkOf s ≡ true) × (noSteps k l v d ≡ true))
+  pub done : Iff (markOf k l v d s .number ≡ 0) ((launchOf k l v (alone d) .code ≡ 0) × (sheetOkOf s ≡ true) × (noSteps k l v d ≡ false))
+  pub size : Iff (markOf k l v d s .number ≡ 1) (launchOf k l v (alone d) .code ≡ 1)
+  pub sheet : Iff (markOf k l v d s .number ≡ 16) ((launchOf k l v (alone d) .code ≡ 0) × (sheetOkOf s ≡ false))
+  pub none : Iff (markOf k l v d s .number ≡ 17) ((launchOf k l v (alone d) .code ≡ 0) × (sheetOkOf s ≡ true) × (noSteps k l v d ≡ true))
 
 abbrev pub MarkAnswers : Type 0
 MarkAnswers = (k : List ℕ) (l : Launch) (v d s : List ℕ) → MarkNumbers k l v d s
 
 pub record ModelNumbers (k : List ℕ) (l : Launch) (v d t : List ℕ) : Type 0 where
-  pub done : Iff (modelOf k l v d t .number ≡ 0) ((launchOf k l v d .code ≡ 0) × (sheetRoom ≤ length t) × (noSteps k l v d ≡ false))
-  pub none : Iff (modelOf k l v d t .number ≡ 17) ((launchOf k l v d .code ≡ 0) × (sheetRoom ≤ length t) × (noSteps k l v d ≡ true))
+  pub done : Iff (modelOf k l v d t .number ≡ 0) ((launchOf k l v (alone d) .code ≡ 0) × (sheetRoom ≤ length t) × (noSteps k l v d ≡ false))
+  pub none : Iff (modelOf k l v d t .number ≡ 17) ((launchOf k l v (alone d) .code ≡ 0) × (sheetRoom ≤ length t) × (noSteps k l v d ≡ true))
   pub others : (modelOf k l v d t .number ≡ 0 → ⊥) → (modelOf k l v d t .number ≡ 17 → ⊥) → modelOf k l v d t .number ≡ 1
 
 abbrev pub ModelAnswers : Type 0
@@ -105,7 +106,7 @@ ModelAnswers = (k : List ℕ) (l : Launch) (v d t : List ℕ) → ModelNumbers k
 
 -- the vector file and the data after the run
 abbrev pub ranLent : List ℕ → State → LentRuns
-ranLent k m = lentRuns (runOf k stepLimit m .ends .left .vector) (runOf k stepLimit m .ends .left .bytes)
+ranLent k m = lentRuns (runOf k stepLimit m .ends .left .vector) (runOf k stepLimit m .ends .left .bytes .dataBytes)
 
 -- the number n, and what is left
 pub record LeftBy (k : List ℕ) (l : Launch) (v d : List ℕ) (n : ℕ) (e : LentRuns) : Type 0 where

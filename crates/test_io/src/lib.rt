@@ -88,11 +88,20 @@ fn put_byte(to: &mut [u8], i: usize, b: u32) {
     }
 }
 
-// Words that a state names by their index; the others stay.
-fn read_entries(file: i32, to: &mut [u32], n: u32) {
+// The index of a word that a state names is a byte, that of a group's word is a word.
+fn next_index(group: bool, file: i32) -> u32 {
+    if group {
+        next_word(file)
+    } else {
+        next_byte(file)
+    }
+}
+
+// Words that a state or a group names by their index; the others stay.
+fn read_entries(group: bool, file: i32, to: &mut [u32], n: u32) {
     let mut i: u32 = 0;
     while i < n {
-        let at = next_byte(file);
+        let at = next_index(group, file);
         put_word(to, at as usize, next_word(file));
         i += 1;
     }
@@ -222,7 +231,16 @@ pub fn read_state(file: i32, state: &mut [u32]) -> usize
 {
     let n = next_word(file);
     let named = next_word(file);
-    read_entries(file, state, named);
+    read_entries(false, file, state, named);
+    words_in(state, n)
+}
+
+pub fn read_group(file: i32, state: &mut [u32]) -> usize
+    ensures { λ r. ⌜ Counts r (now (state .exit)) ⌝ }
+{
+    let n = next_word(file);
+    let named = next_word(file);
+    read_entries(true, file, state, named);
     words_in(state, n)
 }
 

@@ -3,6 +3,7 @@ use mathlib.Core.Path.{_≡_, refl}
 use mathlib.Core.List.{[]}
 use lib.ListN.{replicate}
 use Rattle.lanes.specs.Lanes.{fileWords}
+use Rattle.memory.specs.Memories.{alone}
 use Rattle.warp.specs.Warp.{splitCount}
 use Rattle.definition.specs.Calls.{runOf}
 use Rattle.definition.proofs.Computes.{computes}
@@ -12,7 +13,7 @@ use Rattle.promises.proofs.Runs.{run-reaches}
 
 started : Reached loop all32 (startOf loop all32)
 unfolding computes
-started = launched (replicate fileWords 0) [] refl
+started = launched (replicate fileWords 0) (alone []) refl
 
 opened : (runOf loop 95 (startOf loop all32) .steps ≡ 95) × (runOf loop 95 (startOf loop all32) .ends .left .warp .depth ≡ splitCount)
 unfolding computes

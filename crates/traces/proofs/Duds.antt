@@ -98,7 +98,7 @@ unfolding computes
 idle-breaks h = let e = h loop two (after 4) (after-reached 4) refl (split-opens .by) in omega arith
 
 pub idle-reaches : IdleReaches
-idle-reaches k l s (begins v d e) = launched v d e
+idle-reaches k l s (begins v c e) = launched v c e
 idle-reaches k l s (moves o e) = rw (ap (λ (x : Outcome). x .left) e) at (idle-reaches k l _ o)
 
 pub coasts-breaks : CoastsBreaks

@@ -7,6 +7,7 @@ use lib.Dec.{lit≤}
 use lib.Count.{ones}
 use lib.ListN.{replicate}
 use Rattle.lanes.specs.Lanes.{fileWords}
+use Rattle.memory.specs.Memories.{alone}
 use Rattle.warp.specs.declared.Launch.{Launch}
 use Rattle.warp.specs.Warp.{splitCount, zeroWarp, withStop}
 use Rattle.definition.specs.State.{State, state}
@@ -26,7 +27,7 @@ two = launchOn 2 3
 
 two-started : Reached loop two (startOf loop two)
 unfolding computes
-two-started = launched (replicate fileWords 0) [] refl
+two-started = launched (replicate fileWords 0) (alone []) refl
 
 abbrev pub after : ℕ → State
 after n = runOf loop n (startOf loop two) .ends .left
@@ -42,9 +43,9 @@ split-opens = split-cuts loop two (after 4) (after 5) (after-reached 4) refl (li
 has-room : after 4 .warp .depth < splitCount
 has-room = room loop two (after 4) (after-reached 4) (split-opens .by)
 
-pub changed : Reached loop two (state (after 4 .warp) (replicate fileWords 9) [])
+pub changed : Reached loop two (state (after 4 .warp) (replicate fileWords 9) (alone []))
 unfolding computes
-changed = goes (after-reached 4) (changes refl refl)
+changed = goes (after-reached 4) (changes refl (λ r. refl))
 
 between : Above loop 0 (after 5) (after 9)
 unfolding computes
@@ -63,7 +64,7 @@ one = launchOn 1 1
 
 pub no-split : startOf loop one .warp .depth ≡ 0
 unfolding computes ones
-no-split = one-lane loop one (startOf loop one) (launched (replicate fileWords 0) [] refl) refl
+no-split = one-lane loop one (startOf loop one) (launched (replicate fileWords 0) (alone []) refl) refl
 
 -- ---- a release
 
@@ -75,11 +76,11 @@ waiting = runOf waits 1 (startOf waits two) .ends .left
 
 pub released : Reached waits two (state (withStop false false (waiting .warp)) (waiting .vector) (waiting .bytes))
 unfolding computes
-released = goes (run-reaches waits two 1 (startOf waits two) (launched (replicate fileWords 0) [] refl) .reached) (releases refl)
+released = goes (run-reaches waits two 1 (startOf waits two) (launched (replicate fileWords 0) (alone []) refl) .reached) (releases refl)
 
 -- ---- every row of a step's table is met: 1 by a vector file of no words, 2 by a warp of all zeros, 3 to 11 and 14 by runs of a word or three
 
-pub rows-met : stepOf loop (state (after 0 .warp) [] []) .code ∷ stepOf loop (state zeroWarp (replicate fileWords 0) []) .code
+pub rows-met : stepOf loop (state (after 0 .warp) [] (alone [])) .code ∷ stepOf loop (state zeroWarp (replicate fileWords 0) (alone [])) .code
     ∷ map (λ (k : List ℕ). runOf k 4 (startOf k two) .ends .code)
     ((0x0000400b ∷ []) ∷ (0x0400400b ∷ []) ∷ (0x0000000f ∷ []) ∷ (0x00000000 ∷ []) ∷ (0x80001073 ∷ []) ∷ (0x0020006f ∷ []) ∷ (0x00002003 ∷ []) ∷ (0x5208a057 ∷ 0x420020d7 ∷ []) ∷ (0x5208a057 ∷ 0x0010145b ∷ 0x0000400b ∷ []) ∷ (0x001020ab ∷ []) ∷ [])
     ≡ 1 ∷ 2 ∷ 3 ∷ 4 ∷ 5 ∷ 6 ∷ 7 ∷ 8 ∷ 9 ∷ 10 ∷ 11 ∷ 14 ∷ []

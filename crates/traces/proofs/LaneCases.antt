@@ -15,6 +15,7 @@ use Rattle.isa.specs.declared.VReg.{VReg}
 use Rattle.lanes.specs.declared.Lane.{Lane}
 use Rattle.lanes.specs.Mask.{lane}
 use Rattle.lanes.specs.Lanes.{lanesMax, fileWords, slotOf, laneOf, writeLanes, valueOf}
+use Rattle.memory.specs.Memories.{Data, Local, contents, alone}
 use Rattle.warp.specs.WellFormed.{wellFormedOf}
 use Rattle.definition.specs.State.{State, state, active, laneAt, instrAt}
 use Rattle.definition.specs.Refuse.{mixed}
@@ -49,7 +50,7 @@ moving = 0x5e0081d7 ∷ []
 unfoldable start : State
 start =
     state (launchedOf (launchOn 4 0b0101)) (writeLanes 4 (λ l. true) (vreg 2) (λ l. 7) (writeLanes 4 (λ l. true) (vreg 1) (λ l. 2 * l .0) (replicate fileWords 0)))
-    (replicate 8 0)
+    (alone (replicate 8 0))
 
 -- v1's word in lane h changed to x
 abbrev changed : Lane → ℕ → List ℕ
@@ -86,7 +87,7 @@ unfolding start
 beyond-kept = kept numbering start (lane 4) (lit≤ tt) refl
 
 -- unwritten: VSB12 stores for lanes 0 and 2; byte 2, at lane 1's address, stays
-stored : stepOf storing start .left .bytes ≡ 7 ∷ 0 ∷ 0 ∷ 0 ∷ 7 ∷ 0 ∷ 0 ∷ 0 ∷ []
+stored : stepOf storing start .left .bytes ≡ alone (7 ∷ 0 ∷ 0 ∷ 0 ∷ 7 ∷ 0 ∷ 0 ∷ 0 ∷ [])
 unfolding computes start
 stored = refl
 
@@ -106,16 +107,16 @@ untouched : Touches start 2 (instrAt storing start) → ⊥
 unfolding computes start
 untouched (L.lane s k x y n l a h) = not-two (l .0) a h
 
-stays : getD (stepOf storing start .left .bytes) 2 0 ≡ 0
+stays : getD (stepOf storing start .left .bytes .dataBytes) 2 0 ≡ 0
 unfolding start
-stays = unwritten storing start .1 2 untouched
+stays = unwritten storing start Data .1 2 (lit≤ tt) untouched
 
 -- written: all four lanes at address 0, with the words 10 to 13. Lane 2, the highest active one, wins: not lane 0, and not lane 3, which is not active
 unfoldable together : State
 together =
-    state (launchedOf (launchOn 4 0b0101)) (writeLanes 4 (λ l. true) (vreg 2) (λ l. 10 + l .0) (replicate fileWords 0)) (replicate 8 0)
+    state (launchedOf (launchOn 4 0b0101)) (writeLanes 4 (λ l. true) (vreg 2) (λ l. 10 + l .0) (replicate fileWords 0)) (alone (replicate 8 0))
 
-highest : getD (stepOf storing together .left .bytes) 0 0 ≡ 12
+highest : getD (stepOf storing together .left .bytes .dataBytes) 0 0 ≡ 12
 unfolding computes together
 highest = refl
 
@@ -125,7 +126,19 @@ accepted = refl
 
 byte-of : Becomes together 0 0 12 (instrAt storing together)
 unfolding computes together
-byte-of = written storing together accepted 0
+byte-of = written storing together accepted Data 0 (lit≤ tt)
+
+-- the same in a local memory at address 0, the data memory having no bytes; were both there, they would overlap
+near : List ℕ → State
+near d = state (together .warp) (together .vector) (contents d (replicate 8 0))
+
+near-byte : Becomes (near []) 0 0 12 (instrAt storing (near []))
+unfolding computes together near
+near-byte = written storing (near []) refl Local 0 (lit≤ tt)
+
+overlapping : stepOf storing (near (0 ∷ [])) .code ≡ 1
+unfolding computes together near
+overlapping = refl
 
 -- steps-apart: the private VSB v2, 0(v1), with all places 0. Lane 0's byte is at 0, which lane 2's access can't have: its byte is at 8
 abbrev privately : List ℕ
@@ -133,9 +146,9 @@ privately = 0x0020f02b ∷ []
 
 unfoldable side-by-side : State
 side-by-side =
-    state (launchedOf (launchOn 4 0b0101)) (writeLanes 4 (λ l. true) (vreg 2) (λ l. 10 + l .0) (replicate fileWords 0)) (replicate 12 0)
+    state (launchedOf (launchOn 4 0b0101)) (writeLanes 4 (λ l. true) (vreg 2) (λ l. 10 + l .0) (replicate fileWords 0)) (alone (replicate 12 0))
 
-own-bytes : stepOf privately side-by-side .left .bytes ≡ 10 ∷ 0 ∷ 0 ∷ 0 ∷ 0 ∷ 0 ∷ 0 ∷ 0 ∷ 12 ∷ 0 ∷ 0 ∷ 0 ∷ []
+own-bytes : stepOf privately side-by-side .left .bytes ≡ alone (10 ∷ 0 ∷ 0 ∷ 0 ∷ 0 ∷ 0 ∷ 0 ∷ 0 ∷ 12 ∷ 0 ∷ 0 ∷ 0 ∷ [])
 unfolding computes side-by-side
 own-bytes = refl
 
@@ -183,5 +196,5 @@ moved : laneOf (stepOf moving (withFile (changed (lane 2) 100) start) .left .vec
 unfolding computes start
 moved = refl
 
-alone : SameLane (lane 0) (stepOf moving start .left .vector) (stepOf moving (withFile (changed (lane 2) 100) start) .left .vector)
-alone = lane-alone moving start (changed (lane 2) 100) (elsewhere (lane 2) 100 (lit≤ tt) .0) answers (lane 0) (lit≤ tt) (elsewhere (lane 2) 100 (lit≤ tt) .1 (lane 0) (lit≤ tt) refl)
+alone-there : SameLane (lane 0) (stepOf moving start .left .vector) (stepOf moving (withFile (changed (lane 2) 100) start) .left .vector)
+alone-there = lane-alone moving start (changed (lane 2) 100) (elsewhere (lane 2) 100 (lit≤ tt) .0) answers (lane 0) (lit≤ tt) (elsewhere (lane 2) 100 (lit≤ tt) .1 (lane 0) (lit≤ tt) refl)

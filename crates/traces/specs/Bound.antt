@@ -4,6 +4,7 @@ use mathlib.Core.Path.{_≡_}
 use mathlib.Core.List.{List, [], _∷_}
 use lib.ListN.{replicate}
 use Rattle.lanes.specs.Lanes.{fileWords}
+use Rattle.memory.specs.Memories.{alone}
 use Rattle.warp.specs.declared.Launch.{Launch}
 use Rattle.warp.specs.Warp.{splitCount}
 use Rattle.definition.specs.State.{State}
@@ -48,7 +49,7 @@ launchOn n m =
 
 -- the kernel k launched, with no data memory
 abbrev pub startOf : List ℕ → Launch → State
-startOf k l = launchOf k l (replicate fileWords 0) [] .left
+startOf k l = launchOf k l (replicate fileWords 0) (alone []) .left
 
 abbrev pub all32 : Launch
 all32 = launchOn 32 0xffffffff

@@ -3,6 +3,7 @@ use Prim.Native.Nat.{ℕ, zero, suc, _<_}
 use mathlib.Core.Path.{_≡_}
 use mathlib.Core.List.{List}
 use Rattle.answer.specs.Rows.{first}
+use Rattle.memory.specs.Memories.{Contents}
 use Rattle.warp.specs.declared.Launch.{Launch}
 use Rattle.definition.specs.State.{State, outcome}
 use Rattle.definition.specs.Refuse.{testsOf}
@@ -85,7 +86,7 @@ IdleBreaks = Opened idle → ⊥
 
 -- Over its own steps it would not: whatever demand 3 says of reached states holds of all that these reach.
 pub data Own (M : Machine) (k : List ℕ) (l : Launch) : State → Type 0 where
-  begins : {s : State} (v d : List ℕ) → launchOf k l v d ≡ outcome 0 s → Own M k l s
+  begins : {s : State} (v : List ℕ) (c : Contents) → launchOf k l v c ≡ outcome 0 s → Own M k l s
   moves : {s t : State} → Own M k l s → M .step k s ≡ outcome 0 t → Own M k l t
 
 abbrev pub IdleReaches : Type 0

@@ -9,6 +9,7 @@ use Rattle.isa.specs.Fields.{x}
 use Rattle.isa.specs.Decode.{decodeOf}
 use Rattle.isa.specs.declared.Instr.{Instr}
 use Rattle.isa.specs.declared.Instr.the-variants as I
+use Rattle.memory.specs.Memories.{alone}
 use Rattle.warp.specs.declared.Warp.{Warp}
 use Rattle.warp.specs.declared.Split.{Split}
 use Rattle.warp.specs.Warp.{zeroSplit}
@@ -74,11 +75,11 @@ words = join ⇒ I.Join ∷ endprg ⇒ I.EndPrg ∷ setrpc ⇒ I.SetRpc (x 0) (x
 module _ (M : Machine) where
   -- P1 to P6 and P12: the kernel after n steps
   abbrev after : ℕ → ℕ → Ran
-  after n last = M .run (kernel last) n (state (warp 0xF) (file (0 ∷ 1 ∷ 2 ∷ 3 ∷ []) (2 ∷ 2 ∷ 2 ∷ 2 ∷ [])) [])
+  after n last = M .run (kernel last) n (state (warp 0xF) (file (0 ∷ 1 ∷ 2 ∷ 3 ∷ []) (2 ∷ 2 ∷ 2 ∷ 2 ∷ [])) (alone []))
 
   -- a kernel of one word, one step
   abbrev step : ℕ → ℕ → List ℕ → List ℕ → List ℕ → Outcome
-  step word m v1 v2 d = M .step (word ∷ []) (state (warp m) (file v1 v2) d)
+  step word m v1 v2 d = M .step (word ∷ []) (state (warp m) (file v1 v2) (alone d))
 
   -- P7: VBLT and VBLTU v1, v2, 16 with v1 −1 and v2 0 in all lanes
   abbrev compared : ℕ → List ℕ
@@ -125,7 +126,7 @@ module _ (M : Machine) where
       ∷ computed 0x8620A157 (7 ∷ 0x80000000 ∷ 0 ∷ 0 ∷ []) (0 ∷ 0xFFFFFFFF ∷ 0 ∷ 0 ∷ []) gives (0 ∷ 0xFFFFFFFF ∷ 0x80000000 ∷ [])
       ∷ computed 0x8E20A157 (7 ∷ 0x80000000 ∷ 0 ∷ 0 ∷ []) (0 ∷ 0xFFFFFFFF ∷ 0 ∷ 0 ∷ []) gives (0 ∷ 7 ∷ 0 ∷ [])
       -- P10, P11, P12
-      ∷ (stored .code ∷ stored .left .bytes) gives (9 ∷ replicate 16 7)
+      ∷ (stored .code ∷ stored .left .bytes .dataBytes) gives (9 ∷ replicate 16 7)
       ∷ (taken (5 ∷ 5 ∷ 0 ∷ 0 ∷ []) .code ∷ getD (taken (5 ∷ 5 ∷ 0 ∷ 0 ∷ []) .left .warp .x) 5 0 ∷ []) gives (0 ∷ 5 ∷ [])
       ∷ (taken (5 ∷ 6 ∷ 0 ∷ 0 ∷ []) .code ∷ []) gives (10 ∷ [])
       ∷ view (after 13 endprg) gives (11 ∷ 12 ∷ 0x80000030 ∷ 0xB ∷ 1 ∷ 0x80000030 ∷ 0 ∷ 0 ∷ [])

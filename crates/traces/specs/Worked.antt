@@ -2,6 +2,7 @@
 use Prim.Native.Nat.{ℕ}
 use mathlib.Core.List.{List, [], _∷_, _++_}
 use lib.ListN.{getD, take, drop, replicate}
+use Rattle.memory.specs.Memories.{alone}
 use Rattle.warp.specs.declared.Launch.{Launch}
 use Rattle.warp.specs.declared.Warp.{Warp}
 use Rattle.definition.specs.State.{State, state, Outcome}
@@ -37,7 +38,7 @@ abbrev low : List ℕ
 low = 0x7F ∷ 0x80 ∷ 0x81 ∷ 0xFF ∷ 0x11 ∷ 0x22 ∷ 0x33 ∷ 0x84 ∷ 0x91 ∷ 0x92 ∷ 0x93 ∷ 0x94 ∷ 0x95 ∷ 0x96 ∷ 0x97 ∷ 0x98 ∷ []
 
 abbrev start : List ℕ → List ℕ → State
-start v1 v2 = state (launchedOf launch) (file v1 v2) (low ++ replicate 16 0)
+start v1 v2 = state (launchedOf launch) (file v1 v2) (alone (low ++ replicate 16 0))
 
 module _ (M : Machine) where
   -- a scalar word after lui x5, 1 and lw x6, 4(x5), which is 84332211
@@ -52,7 +53,7 @@ module _ (M : Machine) where
 
   -- the answer, the data
   abbrev kept : ℕ → List ℕ
-  kept word = scalar word .ends .code ∷ scalar word .ends .left .bytes
+  kept word = scalar word .ends .code ∷ scalar word .ends .left .bytes .dataBytes
 
   -- a lane word: the answer, PC, v2's four lanes
   abbrev lanes : ℕ → List ℕ → List ℕ → List ℕ
@@ -64,7 +65,7 @@ module _ (M : Machine) where
   abbrev stored : ℕ → List ℕ → List ℕ
   stored word v1 =
       let o : Outcome = M .step (word ∷ []) (start v1 (0xA1A2A3A4 ∷ 0xB1B2B3B4 ∷ 0xC1C2C3C4 ∷ 0xD1D2D3D4 ∷ [])) in
-      o .code ∷ o .left .warp .pc ∷ o .left .bytes
+      o .code ∷ o .left .warp .pc ∷ o .left .bytes .dataBytes
 
   -- loads of v2 at v1 − 1: lane 1, whose address is outside, isn't active and keeps its 9
   abbrev loaded : ℕ → List ℕ

@@ -8,12 +8,12 @@ use borrow.Author.Needs.{needs}
 use Rattle.capi.proofs.run_state.Statement.{statement}
 use Rattle.capi.proofs.run_state.Tie as tie
 
-abbrev parts : tie.After-run-words-arg2 → tie.After-get
+abbrev parts : tie.After-none → tie.After-get
 parts c =
     let four = c .before .before .before .before in
-    four .before .before
+    four .before .before .before
 
-abbrev start : tie.After-run-words-arg2 → tie.Start
+abbrev start : tie.After-none → tie.Start
 start c =
     let four = parts c .before .before .before .before in
     let eight = four .before .before .before .before in
@@ -30,7 +30,7 @@ abbrev run : tie.After-put-arg → tie.After-run-words
 run c =
     let four = c .before .before .before .before in
     let eight = four .before .before .before .before in
-    eight .before
+    eight .before .before
 
 returns : tie.Need-returns
 returns c =
@@ -43,4 +43,9 @@ returns c =
 pub run-state-spec : {M : Type 1} → statement M
 run-state-spec =
     tie.close
-    (tie.spec (λ c κs. search needs) run-words-requires (λ c κs. start (run c .before) .pre) (λ c. search needs) (λ c. search needs) (λ c. search needs) returns)
+    (tie.spec
+    (λ c κs. search needs) (λ c. search needs)
+    run-words-requires
+    (λ c κs. start (run c .before) .pre)
+    (λ c. search needs) (λ c. search needs) (λ c. search needs)
+    returns)

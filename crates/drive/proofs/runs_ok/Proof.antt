@@ -11,17 +11,12 @@ returns c = rw (lt-leb _ _ (c .if1 .taken), and-false)
 
 returns-2 : tie.Need-returns-2
 unfolding runsOkOf
-returns-2 c = simp (lt-leb _ _ (c .if2 .taken), and-false)
-
-returns-3 : tie.Need-returns-3
-unfolding runsOkOf
-returns-3 c = simp (le-leb _ _ (c .before .before .before .if1 .left), le-leb _ _ (c .before .before .if2 .left), and-true)
+returns-2 c = simp (le-leb _ _ (c .before .before .if1 .left), c .memories-ok .ensures, and-true)
 
 pub runs-ok-spec : {M : Type 1} → statement M
 runs-ok-spec =
     tie.close
     (tie.spec
     returns
-    returns-2
-    (λ c. search needs) (λ c. search needs) (λ c. search needs) (λ c. search needs) (λ c. search needs)
-    returns-3)
+    (λ c. search needs) (λ c. search needs) (λ c. search needs) (λ c κs. search needs)
+    returns-2)

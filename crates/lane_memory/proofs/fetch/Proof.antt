@@ -9,7 +9,7 @@ use Rattle.lanes.specs.Mask.{lane, bit}
 use Rattle.lanes.specs.Lanes.{lanesMax}
 use Rattle.lanes.specs.Rows.{at, RowOn}
 use Rattle.lanes.proofs.RowLaws.{row-on-some, row-on-none}
-use Rattle.memory.specs.Memory.{memory, sizeOf, loadOf}
+use Rattle.memory.specs.Memory.{memory, sizeOf, insideOf, loadOf}
 use Rattle.memory.proofs.Access.{all-inside-at}
 use Rattle.lane_memory.proofs.fetch.Statement.{statement}
 use Rattle.lane_memory.proofs.fetch.Tie as tie
@@ -26,7 +26,7 @@ load-at-requires c κs =
     let k = t .before .before .before in
     let s = k .before .before in
     let g = s .args in
-    all-inside-at (g .n) (bit (g .mask)) (memory (g .base) (g .d .now)) (sizeOf (g .k)) (at (g .o .now)) (s .pre .2) (lane (k .loop .l)) (omega arith) (sym (t .before .active .ensures) ∙ t .if1 .taken)
+    all-inside-at (g .n) (bit (g .mask)) (insideOf (memory (g .base) (g .d .now)) (sizeOf (g .k))) (at (g .o .now)) (s .pre .2) (lane (k .loop .l)) (omega arith) (sym (t .before .active .ensures) ∙ t .if1 .taken)
 
 loop-again : tie.Need-loop-again Inv-loop μ-loop
 loop-again c =

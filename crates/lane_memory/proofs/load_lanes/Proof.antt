@@ -1,39 +1,31 @@
-use mathlib.Core.Path.{_≡_, refl, sym, _∙_}
+use mathlib.Core.Path.{refl, sym, _∙_}
 use borrow.Author.Needs.{needs}
 use Rattle.lanes.specs.Mask.{bit}
 use Rattle.lanes.specs.Rows.{at}
 use Rattle.lanes.proofs.Laws.{write-same}
-use Rattle.memory.specs.Memory.{memory, sizeOf, loadOf}
-use Rattle.memory.specs.LaneAccess.{allInside}
+use Rattle.memory.specs.Memories.{contents, memories, loadFrom}
 use Rattle.lane_memory.proofs.load_lanes.Statement.{statement}
 use Rattle.lane_memory.proofs.load_lanes.Tie as tie
 
-abbrev start : tie.After-all-inside → tie.Start
-start i = i .before .before .before .before
+abbrev start : tie.After-found → tie.Start
+start i = i .before .before .before .before .before
 
-tested : (i : tie.After-all-inside) →
-    let g = start i .args in
-    i .all-inside .result ≡ allInside (g .n) (bit (g .mask)) (memory (g .base) (g .d .now)) (sizeOf (g .k)) (at (g .o .now))
-tested i = rw (← i .before .size .ensures .0) (i .all-inside .ensures)
-
-fetch-op-requires : tie.Need-fetch-op-requires
-fetch-op-requires c κs =
-    let t = c .before in
-    (refl, start (t .before) .pre .2, sym (t .if1 .taken) ∙ tested (t .before))
+found-requires : tie.Need-found-requires
+found-requires c κs = let s = c .before .before .before .before in (refl, s .pre .2, s .pre .3, s .pre .4)
 
 returns : tie.Need-returns
 returns c =
     let p = c .before .before in
-    let f = p .before .before .before in
-    let t = f .before .before in
-    let g = start (t .before) .args in (
-      sym (t .if1 .taken) ∙ tested (t .before),
+    let t = p .before .before .before in
+    let f = t .before in
+    let g = start f .args in (
+      sym (t .if1 .taken) ∙ f .found .ensures .0,
       p .put .ensures
-          ∙ write-same (bit (g .mask)) (g .vd) (at (f .fetch-op .last .1 .1 .1 .1 .1 .1 .0)) (λ l. loadOf (g .k) (memory (g .base) (g .d .now)) (at (g .o .now) l)) (g .v .now) (g .n) (f .fetch-op .ensures .1),
+          ∙ write-same (bit (g .mask)) (g .vd) (at (f .found .last .1 .1 .1 .1 .1 .1 .1 .1 .0)) (λ l. loadFrom (g .k) (memories (g .base) (g .near) (contents (g .d .now) (g .local .now))) (at (g .o .now) l)) (g .v .now) (g .n) (f .found .ensures .1 (t .if1 .taken) .1),
     )
 
 returns-2 : tie.Need-returns-2
-returns-2 c = (sym (c .if1 .left) ∙ tested (c .before), refl)
+returns-2 c = (sym (c .if1 .left) ∙ c .before .found .ensures .0, refl)
 
 pub load-lanes-spec : {M : Type 1} → statement M
-load-lanes-spec = tie.close (tie.spec (λ c κs. search needs) (λ c κs. search needs) fetch-op-requires (λ c κs. search needs) (λ c. search needs) returns returns-2)
+load-lanes-spec = tie.close (tie.spec found-requires (λ c κs. search needs) (λ c. search needs) returns returns-2)

@@ -1,6 +1,7 @@
 use mathlib.Core.Path.{_≡_, sym, _∙_}
 use mathlib.Core.Bool.{true}
 use borrow.Author.Tests.{not-true, not-false}
+use Rattle.memory.specs.Memories.{alone}
 use Rattle.definition.specs.Refuse.{runsOkOf}
 use Rattle.definition.proofs.Sizes.{sizes}
 use Rattle.definition.proofs.Calls.{launch-size, launch-range, launch-done}
@@ -14,9 +15,9 @@ returns c = rw (c .zero-warp .ensures) (sym (launch-size _ _ _ _ (sym (c .before
 abbrev start : tie.Else1 → tie.Start
 start c =
     let four = c .before .before .before .before in
-    four .before .before .before
+    four .before .before .before .before
 
-sized : (c : tie.Else1) → (let a = start c .args in runsOkOf (a .l .fixed) (a .kernel .now) (a .vector .now) (a .bytes .now)) ≡ true
+sized : (c : tie.Else1) → (let a = start c .args in runsOkOf (a .l .fixed) (a .kernel .now) (a .vector .now) (alone (a .bytes .now))) ≡ true
 sized c = sym (c .before .runs-ok .ensures) ∙ not-false _ (c .if1 .left)
 
 returns-2 : tie.Need-returns-2
@@ -38,6 +39,7 @@ pub launch-spec : {M : Type 1} → statement M
 launch-spec =
     tie.close
     (tie.spec
+    (λ c. search needs)
     (λ c κs. search needs) (λ c κs. search needs) (λ c. search needs)
     returns
     (λ c κs. search needs) (λ c κs. search needs) (λ c. search needs)

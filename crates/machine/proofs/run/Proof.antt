@@ -25,16 +25,16 @@ returns-2 c =
 answer-of-requires : tie.Need-answer-of-requires
 answer-of-requires c κs =
     let four = c .before .before .before .before in
-    four .before .before .before .before .run-words .ensures .known
+    four .before .before .before .before .before .run-words .ensures .known
 
 returns-3 : tie.Need-returns-3
 returns-3 c =
     let four = c .before .before .before .before in
-    let ran = four .before .before .before .before .before in
-    let flat = ran .before .before .before .before .before .before .before in
+    let ran = four .before .before .before .before .before .before in
+    let flat = ran .before .before .before .before .before .before .before .before in
     let moving = flat .before .before in
     let left = moving .before .before .before in
-    let start = left .before .before .before .before .before .before .before .before .before .before in (
+    let start = left .before .before .before .before .before .before .before .before .before .before .before in (
       omega arith,
       rw (c .answer-of .ensures)
           (run-goes (start .args .w) (long start) (left .if2 .left) _ _ _ (moving .before .fixed-of .ensures) (moving .moving-of .ensures) (flat .flat .ensures) _ _ _ _ _ _ _ _ (ran .run-words .ensures) (c .before .together .ensures)),
@@ -44,11 +44,11 @@ pub run-spec : {M : Type 1} → statement M
 run-spec =
     tie.close
     (tie.spec
-    (λ c κs. search needs) (λ c κs. search needs) (λ c. search needs) (λ c. search needs)
+    (λ c. search needs) (λ c κs. search needs) (λ c κs. search needs) (λ c. search needs) (λ c. search needs)
     returns
     (λ c κs. search needs) (λ c. search needs) (λ c. search needs)
     returns-2
-    (λ c κs. search needs) (λ c κs. search needs) (λ c κs. search needs) (λ c κs. search needs) (λ c κs. search needs)
+    (λ c κs. search needs) (λ c κs. search needs) (λ c κs. search needs) (λ c. search needs) (λ c κs. search needs) (λ c κs. search needs)
     answer-of-requires
     (λ c. search needs) (λ c. search needs)
     returns-3)

@@ -3,6 +3,7 @@ use mathlib.Core.Bool.{true, _&&_}
 use native.Mathlib.Omega.{arith}
 use borrow.Author.Tests.{not-true, not-false}
 use borrow.Author.Needs.{needs}
+use Rattle.memory.specs.Memories.{alone}
 use Rattle.warp.specs.WellFormed.{launchOkOf}
 use Rattle.definition.specs.Refuse.{runsOkOf}
 use Rattle.sheet_lines.specs.Sheet.{sheetOkOf}
@@ -20,7 +21,7 @@ start c =
     let four = c .before .before .before .before in
     four .before .before .before .before
 
-launches : (c : tie.Else1) → (let a = start c .args in runsOkOf (a .l .fixed) (a .kernel .now) (a .vector .now) (a .bytes .now) && launchOkOf (a .l)) ≡ true
+launches : (c : tie.Else1) → (let a = start c .args in runsOkOf (a .l .fixed) (a .kernel .now) (a .vector .now) (alone (a .bytes .now)) && launchOkOf (a .l)) ≡ true
 launches c = sym (c .before .may-launch .ensures) ∙ not-false _ (c .if1 .left)
 
 returns-2 : tie.Need-returns-2

@@ -4,6 +4,7 @@ use mathlib.Core.Path.{_≡_, refl, sym, _∙_}
 use lib.ListN.{length}
 use lib.Seq.{length-sets}
 use borrow.Author.Needs.{needs}
+use Rattle.memory.specs.Memories.{alone}
 use Rattle.definition.specs.State.{state}
 use Rattle.sheet_lines.specs.Sheet.{stepLimit}
 use Rattle.sheet.proofs.Tracing.{Tracing, tracing-start, tracing-end, step-lengths, tracing-stop, tracing-on}
@@ -11,7 +12,7 @@ use Rattle.sheet.proofs.trace.Statement.{statement}
 use Rattle.sheet.proofs.trace.Tie as tie
 
 abbrev Inv-loop : tie.InvT-loop
-Inv-loop kernel vector₀ bytes₀ t₀ w₀ n₀ vector bytes t w n = Tracing kernel (state w₀ vector₀ bytes₀) (state w vector bytes) n t₀ t × (length t ≡ length t₀)
+Inv-loop kernel vector₀ bytes₀ t₀ w₀ n₀ vector bytes t w n = Tracing kernel (state w₀ vector₀ (alone bytes₀)) (state w vector (alone bytes)) n t₀ t × (length t ≡ length t₀)
 
 abbrev μ-loop : tie.MeasureT-loop
 μ-loop kernel vector₀ bytes₀ t₀ w₀ n₀ vector bytes t w n = stepLimit - n

@@ -6,10 +6,10 @@ use Rattle.test_io.proofs.read_entries.Statement.{statement}
 use Rattle.test_io.proofs.read_entries.Tie as tie
 
 abbrev Inv-loop : tie.InvT-loop
-Inv-loop file to₀ n i₀ to i = length to ≡ length to₀
+Inv-loop group file to₀ n i₀ to i = length to ≡ length to₀
 
 abbrev μ-loop : tie.MeasureT-loop
-μ-loop file to₀ n i₀ to i = n - i
+μ-loop group file to₀ n i₀ to i = n - i
 
 pub read-entries-spec : {M : Type 1} → statement M
 read-entries-spec =
