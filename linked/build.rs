@@ -2,7 +2,7 @@
 
 use std::path::Path;
 
-const CRATES: [&str; 3] = ["capi", "capi_words", "capi_sheet"];
+const CRATES: [&str; 4] = ["capi", "capi_words", "capi_sheet", "capi_group"];
 
 fn main() {
     let folder = std::env::var("CARGO_MANIFEST_DIR").expect("cargo names the package's folder");

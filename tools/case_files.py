@@ -91,6 +91,7 @@ FIELDS = {
     'pi': lambda imm: i_field(within(imm, -1024, 1024) & 0x7FF), 'ps': lambda imm: s_field(within(imm, -1024, 1024) & 0x7FF),
     'u': lambda imm: within(imm, 0, 1 << 20) << 12,
     'amount': lambda imm: within(imm, 0, 32) << 20,
+    'csr': lambda number: within(number, 0, 1 << 12) << 20,
     'signed': lambda imm: (within(imm, -16, 16) & 0x1F) << 15,
     'unsigned': lambda imm: within(imm, 0, 32) << 15,
     # of a prefix: its digits x3, x2, x1 and xd, or six bits of an immediate, x2 and xd
@@ -117,7 +118,8 @@ JUMPS = ('jal', *('b' + c for c in BRANCHES))
 
 def scalar_table():
     rows = {'lui': (0x37, 'xd u'), 'auipc': (0x17, 'xd u'), 'jal': (0x6F, 'xd j'), 'jalr': (0x67, 'xd i x1'),
-            'sub': (0x40000033, 'xd x1 x2'), 'sra': (0x40005033, 'xd x1 x2'), 'srai': (0x40005013, 'xd x1 amount')}
+            'sub': (0x40000033, 'xd x1 x2'), 'sra': (0x40005033, 'xd x1 x2'), 'srai': (0x40005013, 'xd x1 amount'),
+            'csrrs': (0x2073, 'xd csr x1')}
     for names, funct7 in REGISTER_OPS:
         rows |= {n: (funct7 << 25 | f3 << 12 | 0x33, 'xd x1 x2') for f3, n in enumerate(names.split())}
     for n, f3 in {'addi': 0, 'slti': 2, 'sltiu': 3, 'xori': 4, 'ori': 6, 'andi': 7}.items():
@@ -130,7 +132,7 @@ def scalar_table():
 
 
 def ventus_table():
-    rows = {'join': (0x205B, ''), 'endprg': (0x400B, ''), 'setrpc': (0x305B, 'xd x1 i')}
+    rows = {'join': (0x205B, ''), 'endprg': (0x400B, ''), 'barrier': (0x0400400B, ''), 'setrpc': (0x305B, 'xd x1 i')}
     rows |= {'regext': (0x200B, 'd3 d2 d1 d0'), 'regexti': (0x300B, 'high d1 d0')}
     rows |= {'vb' + n: (f3 << 12 | 0x5B, 'v1 v2 b') for n, f3 in BRANCHES.items()}
     rows |= {'vl%s12' % n: (f3 << 12 | 0x7B, 'vd i v1') for n, f3 in LOADS.items()}
@@ -227,9 +229,9 @@ def load_immediate(register, value):
 # ---- cards and case files
 
 
-def card(numt=4, mask=None, entry=None, length=48, version=1, code=CODE, data=DATA, numw=1, wid=0, pds=0):
+def card(numt=4, mask=None, entry=None, length=48, version=1, code=CODE, data=DATA, numw=1, wid=0, lds=0, pds=0):
     mask = (1 << numt) - 1 if mask is None else mask
-    words = [mask, code, data, code if entry is None else entry, 0, 0, 0, pds, 0, 0, 0]
+    words = [mask, code, data, code if entry is None else entry, 0, 0, lds, pds, 0, 0, 0]
     return struct.pack('>HBBBB11I', length, version, numt, numw, wid, *words)
 
 

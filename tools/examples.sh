@@ -1,6 +1,6 @@
 #!/bin/sh
-# The last part of ./check: runs ./bench on every folder of examples/ and crates/test_bench/data/ and compares what it prints with the folder's
-# expected.txt, ./mark and ./sheet on the class of sheets, and each on wrong arguments.
+# The last part of ./check: runs ./bench on every folder of examples/ and crates/test_bench/data/, ./group on those with a cards.bin, and compares what
+# is printed with the folder's expected.txt, ./mark and ./sheet on the class of sheets, and each on wrong arguments.
 set -u
 cd "$(dirname "$0")/.." || exit 2
 same=0 wrong=0
@@ -10,6 +10,7 @@ trap 'rm -rf "$work"' EXIT
 ./bench examples/end >/dev/null || exit 1
 ./mark examples/class examples/class/full.bin >/dev/null || exit 1
 ./sheet examples/class >/dev/null || exit 1
+./group examples/group_sum >/dev/null || exit 1
 
 # NAME, what was printed, what was expected
 compare() {
@@ -30,7 +31,9 @@ expect() {
 
 for expected in examples/*/expected.txt crates/test_bench/data/*/expected.txt; do
     folder=$(dirname "$expected")
-    expect "$folder" "$expected" 0 ./bench "$folder"
+    program=./bench
+    [ ! -f "$folder/cards.bin" ] || program=./group
+    expect "$folder" "$expected" 0 "$program" "$folder"
 done
 
 class=examples/class
@@ -47,10 +50,10 @@ compare 'the file written' "$(cmp "$work/out" "$class/full.bin" 2>&1)" ''
 echo 'refused 17: the run has no steps' >"$work/no-steps"
 expect 'the model sheet of no steps' "$work/no-steps" 1 ./sheet crates/test_bench/data/unknown-word
 
-for program in bench mark sheet; do
+for program in bench group mark sheet; do
     sed -n "s/^ *echo '\(usage: .*\)' >&2$/\1/p" "$program" >"$work/usage"
     expect "./$program with no argument" "$work/usage" 2 "./$program"
-    case $program in bench) set -- ;; *) set -- "$work/out" ;; esac
+    case $program in bench | group) set -- ;; *) set -- "$work/out" ;; esac
     expect "./$program on a missing folder" "$work/usage" 2 "./$program" examples/missing "$@"
 done
 echo "examples: $same as expected, $wrong not"

@@ -1,7 +1,8 @@
 #!/usr/bin/env python3
 """Makes the example folders examples/NAME and the case folders crates/test_bench/data/NAME, each with
-card.bin, kernel.bin, data.bin and expected.txt, the sheets of examples/class with what ./mark and ./sheet print of
-them, and the stdout of crates/bench, crates/test_bench, crates/mark and crates/model_sheet.
+card.bin, kernel.bin, data.bin and expected.txt, the folders of groups examples/group_NAME, with cards.bin, kernel.bin,
+data.bin, local.bin and expected.txt, the sheets of examples/class with what ./mark and ./sheet print of them, and the
+stdout of crates/bench, crates/run_group, crates/test_bench, crates/mark and crates/model_sheet.
 
 The kernels are written as text and encoded by tools/case_files.py. The expected printout, the model sheet and the
 marks are made by the plain Rust reference, never by the proved programs; the columns of a step are read from the
@@ -15,8 +16,13 @@ import functools, os, struct, sys, tempfile
 import case_files
 from case_files import ROOT, packed, words_of
 
-CODE, DATA = 0x80000000, 0x10000000
+CODE, DATA, LOCAL = 0x80000000, 0x10000000, 0x20000000
 card = functools.partial(case_files.card, code=CODE, data=DATA)
+
+
+def cards(warps):
+    """a group's, of four lanes each"""
+    return b''.join(card(numw=warps, wid=wid, lds=LOCAL) for wid in range(warps))
 
 
 def kernel(*texts):
@@ -94,6 +100,62 @@ CROSSING = kernel(
     'vadd.vi v3,v1,10', 'vsw.p v3,0(v2)',
     'endprg')
 
+# the CSRs that a group's kernels read
+TID, WID, LDS = 'csrrs x5,0x800,x0', 'csrrs x5,0x805,x0', 'csrrs x6,0x806,x0'
+
+
+def group_sum(meeting):
+    """warp w adds up w + 1 words of the data, and warp 0 the four sums; `meeting` stands between the two"""
+    return kernel(
+        WID, LDS,
+        'addi x8,x5,1',                         # so many words,
+        'mul x9,x5,x8', 'slli x9,x9,1',         # after w(w + 1)/2 words of the warps before: in bytes
+        'lui x7,0x%x' % (DATA >> 12), 'add x7,x7,x9',
+        'addi x10,x0,0',                        # the sum
+        'lw x11,0(x7)', 'add x10,x10,x11',
+        'addi x7,x7,4', 'addi x8,x8,-1',
+        'bne x8,x0,-16',                        # the next word
+        'slli x12,x5,2', 'add x12,x12,x6',
+        'sw x10,0(x12)',                        # word w of local memory
+        meeting,
+        'bne x5,x0,48',                         # all but warp 0: to the last ENDPRG
+        'lw x11,0(x6)', 'lw x12,4(x6)', 'lw x13,8(x6)', 'lw x14,12(x6)',
+        'add x11,x11,x12', 'add x13,x13,x14', 'add x10,x11,x13',
+        'addi x15,x0,%d' % sum(NUMBERS),
+        'beq x10,x15,8',                        # the right sum: over the first ENDPRG
+        'endprg',                               # wrong
+        'endprg',                               # right
+        'endprg')                               # the other warps
+
+
+NUMBERS = range(1, 11)                          # 1 + 2 + 3 + 4 words
+
+# warps 0 and 1 wait; warp 2 goes round three times and ends without having arrived
+GROUP_ENDED = kernel(
+    WID, 'addi x6,x0,2',
+    'beq x5,x6,16',                             # warp 2: to the word after the first ENDPRG
+    'barrier', 'addi x7,x0,1', 'endprg',
+    'addi x8,x0,3', 'addi x8,x8,-1', 'bne x8,x0,-4',
+    'endprg')
+
+# each thread reads its word of local memory; warp 2 takes two steps more, so that the others wait by then
+GROUP_STOP = kernel(
+    TID, LDS,
+    'sltiu x7,x5,8', 'bne x7,x0,12',            # TID below 8, so warp 0 or 1: over the next two words
+    'addi x0,x0,0', 'addi x0,x0,0',
+    'vid.v v1', 'vadd.vx v1,v1,x5',             # the thread's number
+    'vsll.vi v2,v1,2', 'vadd.vx v2,v2,x6',
+    'vlw12 v3,0(v2)',
+    'barrier', 'endprg')
+
+GROUPS = {
+    # name: cards, kernel, data, local memory
+    'group_sum': (cards(4), group_sum('barrier'), packed(NUMBERS, '<'), bytes(16)),
+    'group_race': (cards(4), group_sum('addi x0,x0,0'), packed(NUMBERS, '<'), bytes(16)),
+    'group_ended': (cards(3), GROUP_ENDED, b'', b''),
+    'group_stop': (cards(3), GROUP_STOP, b'', bytes(4 * 11)),
+}
+
 EXAMPLES = {
     # name: card, kernel, data; None: no such file
     'end': (card(), END, None),
@@ -136,15 +198,21 @@ CASES = {
 }
 
 NAMES = ('card.bin', 'kernel.bin', 'data.bin')
+GROUP_NAMES = ('cards.bin', 'kernel.bin', 'data.bin', 'local.bin')
+
+
+def store(folder, files):
+    """writes each (name, content)"""
+    for file, content in files:
+        if content is not None:
+            with open(os.path.join(folder, file), 'wb') as f:
+                f.write(content)
 
 
 def reference_on(files, reference, before=(), after=(), more=(), out=None):
     """what the reference prints in a folder with the files and the (name, content) of `more`, or the file `out` that it writes there"""
     with tempfile.TemporaryDirectory() as folder:
-        for file, content in (*zip(NAMES, files), *more):
-            if content is not None:
-                with open(os.path.join(folder, file), 'wb') as f:
-                    f.write(content)
+        store(folder, (*zip(NAMES, files), *more))
         printed = case_files.output_of(reference, *before, *NAMES, *after, cwd=folder)
         if out is None:
             return printed
@@ -154,6 +222,12 @@ def reference_on(files, reference, before=(), after=(), more=(), out=None):
 
 def printout(files, reference):
     return reference_on(files, reference)
+
+
+def group_printout(files, reference):
+    with tempfile.TemporaryDirectory() as folder:
+        store(folder, zip(GROUP_NAMES, files))
+        return case_files.output_of(reference, 'group', folder)
 
 
 # ---- the class: sheets of the split, by what is wrong with them
@@ -235,8 +309,13 @@ def contents(reference):
     for parent, cases in (('examples', EXAMPLES), ('crates/test_bench/data', CASES)):
         folders |= {'%s/%s' % (parent, name): files for name, files in cases.items()}
         made |= {'%s/%s/expected.txt' % (parent, name): printed[name] for name in cases}
-    for folder, files in folders.items():
-        made |= {'%s/%s' % (folder, file): content for file, content in zip(NAMES, files) if content is not None}
+    groups = {name: group_printout(files, reference) for name, files in GROUPS.items()}
+    made |= {'examples/%s/expected.txt' % name: lines for name, lines in groups.items()} | {'crates/run_group/stdout': groups['group_sum']}
+    named = [(folder, zip(NAMES, files)) for folder, files in folders.items()]
+    named += [('examples/' + name, zip(GROUP_NAMES, files)) for name, files in GROUPS.items()]
+    named += [('crates/run_group/data', zip(GROUP_NAMES, GROUPS['group_sum']))]
+    for folder, files in named:
+        made |= {'%s/%s' % (folder, file): content for file, content in files if content is not None}
     return {os.path.join(ROOT, path): content for path, content in made.items()}
 
 

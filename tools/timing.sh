@@ -1,7 +1,7 @@
 #!/bin/sh
-# tools/timing.sh [REPETITIONS]: times the proved library against the reference. Builds the three libraries for the machine at hand,
-# runs `compare`, which must find no difference, then `timing` in four processes, and prints a table of their medians, and last
-# `timing words` and `timing class`. No time is held to anything, and no other work should run beside it (docs/SPEED.md).
+# tools/timing.sh [REPETITIONS]: times the proved library against the reference. Builds the four libraries for the machine at hand,
+# runs `compare` and `compare groups`, which must find no difference, then `timing` in four processes, and prints a table of their
+# medians, and last `timing words`, `timing class` and `timing group`. No time is held to anything, and no other work should run beside it (docs/SPEED.md).
 set -eu
 usage() { echo 'usage: tools/timing.sh [REPETITIONS]   (how often each machine runs each kernel in a process, 1 to 65535; 201 if not given)' >&2; exit 2; }
 [ $# -le 1 ] || usage
@@ -17,14 +17,16 @@ trap 'rm -rf "$work"' EXIT
 # what a build prints is kept in a file, and looked at only where it fails
 build() { "$@" >>target/timing.log 2>&1 || { echo "timing.sh: this failed, and target/timing.log says why: $*" >&2; exit 1; }; }
 : >target/timing.log
-echo 'timing.sh: proving and building the three libraries' >&2
-for crate in capi capi_words capi_sheet; do
+echo 'timing.sh: proving and building the four libraries' >&2
+for crate in capi capi_words capi_sheet capi_group; do
     build tools/static_library.sh "$crate" "linked/lib$crate.a"
 done
 build cargo build --release --manifest-path linked/Cargo.toml
 programs=linked/target/release
-"$programs/compare" >"$work/compare" || { cat "$work/compare"; exit 1; }
-tail -n 1 "$work/compare"
+for what in '' groups; do
+    "$programs/compare" $what >"$work/compare" || { cat "$work/compare"; exit 1; }
+    tail -n 1 "$work/compare"
+done
 for process in 1 2 3 4; do
     "$programs/timing" "$repetitions" >"$work/$process" || { cat "$work/$process"; exit 1; }
 done
@@ -51,7 +53,7 @@ awk -F ' *[|] *' '
             printf "| %s | %s | %.1f | %.1f | %.2f |\n", k, steps[k], median(k, 4), median(k, 6), median(k, 8)
         }
     }' "$work/1" "$work/2" "$work/3" "$work/4"
-for what in words class; do
+for what in words class group; do
     echo
     "$programs/timing" "$what" "$repetitions"
 done

@@ -17,14 +17,17 @@ pub struct Lent {
     pub state: Vec<u32>,
     pub vector: Vec<u32>,
     pub data: Vec<u8>,
-    /// Where a run puts its count and a written sheet its size, one word, and a mark its result, two
-    /// words; another length is refused.
+    /// A group's second memory.
+    pub local: Vec<u8>,
+    /// Where a run puts its count, a written sheet its size and a group's step the WID that stops
+    /// it, one word, and a mark its result and a group's run its count and that WID, two words;
+    /// another length is refused.
     pub words: Vec<u32>,
     /// Where a sheet is written.
     pub target: Vec<u8>,
 }
 
-/// The seven calls, as docs/FILES.md has them.
+/// The ten calls, as docs/FILES.md has them.
 pub trait Machine {
     fn launch(card: &[u8], kernel: &[u32], lent: &mut Lent) -> u32;
     fn step(kernel: &[u32], lent: &mut Lent) -> u32;
@@ -33,4 +36,7 @@ pub trait Machine {
     fn decode(word: u32) -> u32;
     fn mark(card: &[u8], kernel: &[u32], sheet: &[u8], lent: &mut Lent) -> u32;
     fn write_sheet(card: &[u8], kernel: &[u32], lent: &mut Lent) -> u32;
+    fn group_launch(cards: &[u8], kernel: &[u32], lent: &mut Lent) -> u32;
+    fn group_step(kernel: &[u32], lent: &mut Lent) -> u32;
+    fn group_run(kernel: &[u32], budget: u32, lent: &mut Lent) -> u32;
 }

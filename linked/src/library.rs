@@ -1,6 +1,6 @@
-//! The seven calls of the three linked libraries, made safe. Nothing checks these declarations
-//! against src/lib.rt of crates capi, capi_words and capi_sheet: a slice is passed as its pointer
-//! and then its length in elements.
+//! The ten calls of the four linked libraries, made safe. Nothing checks these declarations
+//! against src/lib.rt of crates capi, capi_words, capi_sheet and capi_group: a slice is passed as
+//! its pointer and then its length in elements.
 
 use crate::{Lent, Machine};
 
@@ -70,6 +70,49 @@ mod c {
             target_bytes: usize,
             written: *mut u32,
             written_words: usize,
+        ) -> u32;
+        pub fn bench_group_launch(
+            cards: *const u8,
+            cards_bytes: usize,
+            kernel: *const u32,
+            kernel_words: usize,
+            vector: *mut u32,
+            vector_words: usize,
+            data: *const u8,
+            data_bytes: usize,
+            local: *const u8,
+            local_bytes: usize,
+            state: *mut u32,
+            state_words: usize,
+        ) -> u32;
+        pub fn bench_group_step(
+            state: *mut u32,
+            state_words: usize,
+            kernel: *const u32,
+            kernel_words: usize,
+            vector: *mut u32,
+            vector_words: usize,
+            data: *mut u8,
+            data_bytes: usize,
+            local: *mut u8,
+            local_bytes: usize,
+            stopped: *mut u32,
+            stopped_words: usize,
+        ) -> u32;
+        pub fn bench_group_run(
+            state: *mut u32,
+            state_words: usize,
+            kernel: *const u32,
+            kernel_words: usize,
+            vector: *mut u32,
+            vector_words: usize,
+            data: *mut u8,
+            data_bytes: usize,
+            local: *mut u8,
+            local_bytes: usize,
+            budget: u32,
+            out: *mut u32,
+            out_words: usize,
         ) -> u32;
     }
 }
@@ -175,6 +218,67 @@ impl Machine for Linked {
                 data.len(),
                 target.as_mut_ptr(),
                 target.len(),
+                words.as_mut_ptr(),
+                words.len(),
+            )
+        }
+    }
+
+    fn group_launch(cards: &[u8], kernel: &[u32], lent: &mut Lent) -> u32 {
+        let Lent { state, vector, data, local, .. } = lent;
+        unsafe {
+            c::bench_group_launch(
+                cards.as_ptr(),
+                cards.len(),
+                kernel.as_ptr(),
+                kernel.len(),
+                vector.as_mut_ptr(),
+                vector.len(),
+                data.as_ptr(),
+                data.len(),
+                local.as_ptr(),
+                local.len(),
+                state.as_mut_ptr(),
+                state.len(),
+            )
+        }
+    }
+
+    fn group_step(kernel: &[u32], lent: &mut Lent) -> u32 {
+        let Lent { state, vector, data, local, words, .. } = lent;
+        unsafe {
+            c::bench_group_step(
+                state.as_mut_ptr(),
+                state.len(),
+                kernel.as_ptr(),
+                kernel.len(),
+                vector.as_mut_ptr(),
+                vector.len(),
+                data.as_mut_ptr(),
+                data.len(),
+                local.as_mut_ptr(),
+                local.len(),
+                words.as_mut_ptr(),
+                words.len(),
+            )
+        }
+    }
+
+    fn group_run(kernel: &[u32], budget: u32, lent: &mut Lent) -> u32 {
+        let Lent { state, vector, data, local, words, .. } = lent;
+        unsafe {
+            c::bench_group_run(
+                state.as_mut_ptr(),
+                state.len(),
+                kernel.as_ptr(),
+                kernel.len(),
+                vector.as_mut_ptr(),
+                vector.len(),
+                data.as_mut_ptr(),
+                data.len(),
+                local.as_mut_ptr(),
+                local.len(),
+                budget,
                 words.as_mut_ptr(),
                 words.len(),
             )

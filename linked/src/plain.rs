@@ -1,7 +1,7 @@
-//! The reference behind the seven calls.
+//! The reference behind the ten calls.
 
 use crate::{Lent, Machine};
-use reference::{isa, saved, sheet, Refusal};
+use reference::{group, isa, saved, sheet, Refusal};
 
 /// The interpreter of `reference/`.
 pub struct Reference;
@@ -41,5 +41,20 @@ impl Machine for Reference {
     fn write_sheet(card: &[u8], kernel: &[u32], lent: &mut Lent) -> u32 {
         let Lent { vector, data, words, target, .. } = lent;
         sheet::bench_sheet(card, kernel, vector, data, target, words)
+    }
+
+    fn group_launch(cards: &[u8], kernel: &[u32], lent: &mut Lent) -> u32 {
+        let Lent { state, vector, data, local, .. } = lent;
+        group::launch(cards, kernel, vector, data, local, state)
+    }
+
+    fn group_step(kernel: &[u32], lent: &mut Lent) -> u32 {
+        let Lent { state, vector, data, local, words, .. } = lent;
+        group::step(state, kernel, vector, data, local, words)
+    }
+
+    fn group_run(kernel: &[u32], budget: u32, lent: &mut Lent) -> u32 {
+        let Lent { state, vector, data, local, words, .. } = lent;
+        group::run(state, kernel, vector, data, local, budget, words)
     }
 }

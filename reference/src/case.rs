@@ -2,7 +2,7 @@
 //! The format is written down in CASES-FORMAT.md.
 
 use crate::state::{Fixed, Launch};
-use crate::{card, code, saved, sheet};
+use crate::{card, code, group, saved, sheet};
 
 pub const MAGIC: &[u8; 4] = b"WBC1";
 
@@ -43,6 +43,16 @@ pub struct Job {
     pub vector: Vector,
 }
 
+/// A group that is handed in, and what is lent with it.
+#[derive(Clone, Debug, PartialEq, Eq)]
+pub struct Handed {
+    pub state: Vec<u32>,
+    pub kernel: Kernel,
+    pub data: Data,
+    pub vector: Vector,
+    pub local: Data,
+}
+
 /// What the last field of the answer to a launch shows.
 #[derive(Clone, Copy, Debug, PartialEq, Eq)]
 pub enum Shown {
@@ -65,6 +75,9 @@ mod kind {
     pub const DATA_ONLY: u8 = 7;
     pub const MARK: u8 = 8;
     pub const SHEET: u8 = 9;
+    pub const GROUP_LAUNCH: u8 = 10;
+    pub const GROUP_STEP: u8 = 11;
+    pub const GROUP_RUN: u8 = 12;
 }
 
 /// The kinds of a launch by what they show.
@@ -107,6 +120,25 @@ pub enum Case {
         target: u32,
         written: u32,
     },
+    /// The job's card is all cards of the group; launched into a state of so many words, and run
+    /// if it was not refused.
+    GroupLaunch {
+        job: Job,
+        local: Data,
+        state: u32,
+        budget: u32,
+    },
+    /// `stopped` words for the WID.
+    GroupStep {
+        handed: Handed,
+        stopped: u32,
+    },
+    /// `out` words for steps and WID.
+    GroupRun {
+        handed: Handed,
+        budget: u32,
+        out: u32,
+    },
 }
 
 /// What one line of the expected output says.
@@ -131,6 +163,11 @@ pub enum Said {
     Mark([u32; 2]),
     /// A written sheet's size.
     Sheet([u32; 1]),
+    Group {
+        steps: u32,
+        wid: u32,
+        turn: u32,
+    },
 }
 
 impl Answer {
@@ -141,6 +178,7 @@ impl Answer {
             }
             Said::Mark([mark, step]) => format!("{mark} {step}"),
             Said::Sheet([bytes]) => bytes.to_string(),
+            Said::Group { steps, wid, turn } => format!("{steps} {wid} {turn}"),
         };
         format!("{number} {} {said} {:08x}\n", self.code, self.last)
     }
@@ -148,7 +186,7 @@ impl Answer {
     /// The steps of a run; a sheet's line doesn't say them.
     pub fn steps(&self) -> u32 {
         match self.said {
-            Said::Warp { steps, .. } => steps,
+            Said::Warp { steps, .. } | Said::Group { steps, .. } => steps,
             _ => 0,
         }
     }
@@ -206,6 +244,24 @@ impl Job {
     /// What is lent: kernel, vector file and data.
     pub fn build(&self) -> (Vec<u32>, Vec<u32>, Vec<u8>) {
         (self.kernel.build(), self.vector.build(), self.data.build())
+    }
+}
+
+/// What a group's call may change.
+#[derive(Clone, Debug, PartialEq, Eq)]
+pub struct GroupLent {
+    pub state: Vec<u32>,
+    pub vector: Vec<u32>,
+    pub data: Vec<u8>,
+    pub local: Vec<u8>,
+}
+
+impl Handed {
+    /// The kernel, and all that a call may change.
+    pub fn build(&self) -> (Vec<u32>, GroupLent) {
+        let (vector, data) = (self.vector.build(), self.data.build());
+        let lent = GroupLent { state: self.state.clone(), vector, data, local: self.local.build() };
+        (self.kernel.build(), lent)
     }
 }
 
@@ -288,6 +344,14 @@ pub fn evaluate(case: &Case) -> Answer {
         }
         Case::Mark { job, sheet, result } => mark(job, sheet, *result),
         Case::Sheet { job, target, written } => write_sheet(job, *target, *written),
+        Case::GroupLaunch { job, local, state, budget } => {
+            launch_group(job, local, *state, *budget)
+        }
+        Case::GroupStep { handed, stopped } => step_group(handed, *stopped),
+        Case::GroupRun { handed, budget, out } => {
+            let (kernel, lent) = handed.build();
+            run_group(&kernel, lent, *budget, answer_words(*out))
+        }
     }
 }
 
@@ -359,6 +423,39 @@ fn write_sheet(job: &Job, target: u32, written: u32) -> Answer {
     Answer { code, said: Said::Sheet(said_words(&written)), last: digest.0 }
 }
 
+fn launch_group(job: &Job, local: &Data, state: u32, budget: u32) -> Answer {
+    let (kernel, vector, data) = job.build();
+    let mut lent = GroupLent { state: answer_words(state), vector, data, local: local.build() };
+    let GroupLent { state, vector, data, local } = &mut lent;
+    match group::launch(&job.card, &kernel, vector, data, local, state) {
+        0 => run_group(&kernel, lent, budget, vec![0; 2]),
+        code => group_answer(code, 0, 0, &lent, &[0; 2]),
+    }
+}
+
+fn step_group(handed: &Handed, stopped: u32) -> Answer {
+    let ((kernel, mut lent), mut stopped) = (handed.build(), answer_words(stopped));
+    let GroupLent { state, vector, data, local } = &mut lent;
+    let code = group::step(state, &kernel, vector, data, local, &mut stopped);
+    let [wid] = said_words(&stopped);
+    group_answer(code, u32::from(code == 0), wid, &lent, &stopped)
+}
+
+fn run_group(kernel: &[u32], mut lent: GroupLent, budget: u32, mut out: Vec<u32>) -> Answer {
+    let GroupLent { state, vector, data, local } = &mut lent;
+    let code = group::run(state, kernel, vector, data, local, budget, &mut out);
+    let [steps, wid] = said_words(&out);
+    group_answer(code, steps, wid, &lent, &out)
+}
+
+/// The turn is the state's first word, if it has one.
+fn group_answer(code: u32, steps: u32, wid: u32, lent: &GroupLent, words: &[u32]) -> Answer {
+    let GroupLent { state, vector, data, local } = lent;
+    let turn = state.first().copied().unwrap_or(0);
+    let digest = Digest::new().words(state).words(vector).bytes(data).bytes(local).words(words);
+    Answer { code, said: Said::Group { steps, wid, turn }, last: digest.0 }
+}
+
 fn digest(state: &[u32], vector: &[u32], data: &[u8]) -> u32 {
     Digest::new().words(state).words(vector).bytes(data).0
 }
@@ -381,14 +478,18 @@ fn put_bytes(out: &mut Vec<u8>, bytes: &[u8]) {
     out.extend_from_slice(bytes);
 }
 
+fn put_data(out: &mut Vec<u8>, data: &Data) {
+    put(out, data.total);
+    put_bytes(out, &data.bytes);
+    put(out, data.seed);
+}
+
 fn put_runs(out: &mut Vec<u8>, kernel: &Kernel, data: &Data, vector: &Vector) {
     put(out, kernel.total);
     put(out, kernel.words.len() as u32);
     kernel.words.iter().for_each(|w| put(out, *w));
     put(out, kernel.fill);
-    put(out, data.total);
-    put_bytes(out, &data.bytes);
-    put(out, data.seed);
+    put_data(out, data);
     put(out, vector.total);
     put(out, vector.seed);
     put(out, vector.base);
@@ -400,15 +501,27 @@ fn put_job(out: &mut Vec<u8>, job: &Job) {
     put_runs(out, &job.kernel, &job.data, &job.vector);
 }
 
-fn put_state(out: &mut Vec<u8>, state: &[u32]) {
+/// The words that are not 0, each behind its place, which `put_place` writes.
+fn put_words(out: &mut Vec<u8>, words: &[u32], put_place: impl Fn(&mut Vec<u8>, usize)) {
     let set: Vec<(usize, u32)> =
-        state.iter().copied().enumerate().filter(|(_, w)| *w != 0).collect();
-    put(out, state.len() as u32);
+        words.iter().copied().enumerate().filter(|(_, w)| *w != 0).collect();
+    put(out, words.len() as u32);
     put(out, set.len() as u32);
     for (at, word) in set {
-        out.push(u8::try_from(at).expect("only the first 256 words may be set"));
+        put_place(out, at);
         put(out, word);
     }
+}
+
+fn put_state(out: &mut Vec<u8>, state: &[u32]) {
+    let place = |at: usize| u8::try_from(at).expect("only the first 256 words may be set");
+    put_words(out, state, |out, at| out.push(place(at)));
+}
+
+fn put_handed(out: &mut Vec<u8>, handed: &Handed) {
+    put_words(out, &handed.state, |out, at| put(out, at as u32));
+    put_runs(out, &handed.kernel, &handed.data, &handed.vector);
+    put_data(out, &handed.local);
 }
 
 /// Writes a case's body and returns its kind.
@@ -447,6 +560,22 @@ fn put_body(body: &mut Vec<u8>, case: &Case) -> u8 {
             put_job(body, job);
             [target, written].iter().for_each(|w| put(body, **w));
             kind::SHEET
+        }
+        Case::GroupLaunch { job, local, state, budget } => {
+            put_job(body, job);
+            put_data(body, local);
+            [state, budget].iter().for_each(|w| put(body, **w));
+            kind::GROUP_LAUNCH
+        }
+        Case::GroupStep { handed, stopped } => {
+            put_handed(body, handed);
+            put(body, *stopped);
+            kind::GROUP_STEP
+        }
+        Case::GroupRun { handed, budget, out } => {
+            put_handed(body, handed);
+            [budget, out].iter().for_each(|w| put(body, **w));
+            kind::GROUP_RUN
         }
     }
 }
@@ -505,13 +634,26 @@ impl<'a> Reader<'a> {
             mask: self.word()?,
         })
     }
-    fn state(&mut self) -> Option<Vec<u32>> {
-        let mut state = vec![0; self.word()? as usize];
+    /// Words of which those that are not 0 are named by their place, which `place` reads.
+    fn words(&mut self, place: impl Fn(&mut Self) -> Option<u32>) -> Option<Vec<u32>> {
+        let mut words = vec![0; self.word()? as usize];
         for _ in 0..self.word()? {
-            let at = self.byte()? as usize;
-            *state.get_mut(at)? = self.word()?;
+            let at = place(self)? as usize;
+            *words.get_mut(at)? = self.word()?;
         }
-        Some(state)
+        Some(words)
+    }
+    fn state(&mut self) -> Option<Vec<u32>> {
+        self.words(|r| r.byte().map(u32::from))
+    }
+    fn handed(&mut self) -> Option<Handed> {
+        Some(Handed {
+            state: self.words(Self::word)?,
+            kernel: self.kernel()?,
+            data: self.data()?,
+            vector: self.vector()?,
+            local: self.data()?,
+        })
     }
     fn job(&mut self) -> Option<Job> {
         Some(Job {
@@ -543,6 +685,16 @@ impl<'a> Reader<'a> {
             }
             kind::MARK => Case::Mark { job: r.job()?, sheet: r.run()?.to_vec(), result: r.word()? },
             kind::SHEET => Case::Sheet { job: r.job()?, target: r.word()?, written: r.word()? },
+            kind::GROUP_LAUNCH => Case::GroupLaunch {
+                job: r.job()?,
+                local: r.data()?,
+                state: r.word()?,
+                budget: r.word()?,
+            },
+            kind::GROUP_STEP => Case::GroupStep { handed: r.handed()?, stopped: r.word()? },
+            kind::GROUP_RUN => {
+                Case::GroupRun { handed: r.handed()?, budget: r.word()?, out: r.word()? }
+            }
             launch => Case::Launch {
                 shown: LAUNCH_KINDS.iter().find(|(kind, _)| *kind == launch)?.1,
                 job: r.job()?,

@@ -4,6 +4,7 @@ use crate::isa::{
     decode, decode_after, AluOp, Cond, CsrOp, CsrSrc, Insn, LoadKind, Prefix, Space, StoreKind,
     VOp, VSrc, V, VECTORS, X,
 };
+use crate::memory::{load_size, store_size, Memory};
 use crate::state::{Fixed, Split, Warp, LANES};
 use crate::Refusal;
 
@@ -15,7 +16,12 @@ type Step = Result<(), Refusal>;
 /// Fetch, decode and do one word, which uses up the prefix that was pending. A refusal changes
 /// nothing.
 #[inline]
-pub fn step(w: &mut Warp, kernel: &[u32], v: &mut VectorFile, data: &mut [u8]) -> Step {
+pub fn step<M: Memory + ?Sized>(
+    w: &mut Warp,
+    kernel: &[u32],
+    v: &mut VectorFile,
+    memory: &mut M,
+) -> Step {
     if w.ended {
         return Err(Refusal::Ended);
     }
@@ -24,19 +30,24 @@ pub fn step(w: &mut Warp, kernel: &[u32], v: &mut VectorFile, data: &mut [u8]) -
     }
     let word = fetch(w, kernel).ok_or(Refusal::NoWord)?;
     if w.prefix != Prefix::None {
-        return step_behind(w, word, v, data);
+        return step_behind(w, word, v, memory);
     }
     let insn = decode(word).ok_or(Refusal::NoInstruction)?;
-    execute(w, insn, v, data)
+    execute(w, insn, v, memory)
 }
 
 /// A word behind a prefix, so that it is no prefix itself. Apart, it leaves the other words as fast
 /// as without it.
 #[cold]
 #[inline(never)]
-fn step_behind(w: &mut Warp, word: u32, v: &mut VectorFile, data: &mut [u8]) -> Step {
+fn step_behind<M: Memory + ?Sized>(
+    w: &mut Warp,
+    word: u32,
+    v: &mut VectorFile,
+    memory: &mut M,
+) -> Step {
     let insn = decode_after(w.prefix, word).ok_or(Refusal::NoInstruction)?;
-    execute(w, insn, v, data)?;
+    execute(w, insn, v, memory)?;
     w.prefix = Prefix::None;
     Ok(())
 }
@@ -49,7 +60,12 @@ pub fn fetch(w: &Warp, kernel: &[u32]) -> Option<u32> {
 }
 
 #[inline]
-fn execute(w: &mut Warp, insn: Insn, v: &mut VectorFile, data: &mut [u8]) -> Step {
+fn execute<M: Memory + ?Sized>(
+    w: &mut Warp,
+    insn: Insn,
+    v: &mut VectorFile,
+    memory: &mut M,
+) -> Step {
     match insn {
         Insn::Lui { rd, imm } => set(w, rd, imm),
         Insn::Auipc { rd, imm } => set(w, rd, w.pc.wrapping_add(imm)),
@@ -57,12 +73,12 @@ fn execute(w: &mut Warp, insn: Insn, v: &mut VectorFile, data: &mut [u8]) -> Ste
         Insn::Jalr { rd, rs1, imm } => return jump(w, rd, get(w, rs1).wrapping_add(imm) & !1),
         Insn::Branch { cond, rs1, rs2, off } => return branch(w, cond, rs1, rs2, off),
         Insn::Load { kind, rd, rs1, off } => {
-            let at = scalar_place(w, data, rs1, off, load_size(kind))?;
-            set(w, rd, load(data, kind, at));
+            let at = scalar_place(w, memory, rs1, off, load_size(kind))?;
+            set(w, rd, memory.load(kind, at));
         }
         Insn::Store { kind, rs1, rs2, off } => {
-            let at = scalar_place(w, data, rs1, off, store_size(kind))?;
-            store(data, kind, at, get(w, rs2));
+            let at = scalar_place(w, memory, rs1, off, store_size(kind))?;
+            memory.store(kind, at, get(w, rs2));
         }
         Insn::AluImm { op, rd, rs1, imm } => set(w, rd, alu(op, get(w, rs1), imm)),
         Insn::Alu { op, rd, rs1, rs2 } => set(w, rd, alu(op, get(w, rs1), get(w, rs2))),
@@ -88,12 +104,12 @@ fn execute(w: &mut Warp, insn: Insn, v: &mut VectorFile, data: &mut [u8]) -> Ste
         Insn::VmvXS { rd, vs2 } => set(w, rd, uniform(w.mask, lanes_of(v, vs2))?),
         Insn::Vid { vd } => lanes(w.mask, lanes_mut(v, vd), |lane| lane as u32),
         Insn::Vload { space, kind, vd, vs1, off } => {
-            let at = places(w, data, lanes_of(v, vs1), space, off, load_size(kind))?;
-            load_lanes(w.mask, lanes_mut(v, vd), data, kind, &at);
+            let at = places(w, memory, lanes_of(v, vs1), space, off, load_size(kind))?;
+            load_lanes(w.mask, lanes_mut(v, vd), memory, kind, &at);
         }
         Insn::Vstore { space, kind, vs1, vs2, off } => {
-            let at = places(w, data, lanes_of(v, vs1), space, off, store_size(kind))?;
-            store_lanes(w.mask, lanes_of(v, vs2), data, kind, &at);
+            let at = places(w, memory, lanes_of(v, vs1), space, off, store_size(kind))?;
+            store_lanes(w.mask, lanes_of(v, vs2), memory, kind, &at);
         }
     }
     w.pc = w.pc.wrapping_add(4);
@@ -445,64 +461,18 @@ fn uniform(mask: u32, a: &[u32; LANES]) -> Result<u32, Refusal> {
     }
 }
 
-// Data memory.
-
-#[inline]
-pub fn load_size(kind: LoadKind) -> usize {
-    match kind {
-        LoadKind::B | LoadKind::Bu => 1,
-        LoadKind::H | LoadKind::Hu => 2,
-        LoadKind::W => 4,
-    }
-}
-
-#[inline]
-pub fn store_size(kind: StoreKind) -> usize {
-    match kind {
-        StoreKind::B => 1,
-        StoreKind::H => 2,
-        StoreKind::W => 4,
-    }
-}
-
-/// Where in the data run an access begins, if it lies wholly inside.
-#[inline]
-pub fn place(data: &[u8], base: u32, address: u32, size: usize) -> Result<usize, Refusal> {
-    let at = address.checked_sub(base).ok_or(Refusal::Access)? as usize;
-    match data.len().checked_sub(size) {
-        Some(last) if at <= last => Ok(at),
-        _ => Err(Refusal::Access),
-    }
-}
+// Loads and stores.
 
 /// The place of a scalar access.
 #[inline]
-fn scalar_place(w: &Warp, data: &[u8], rs1: X, off: u32, size: usize) -> Result<usize, Refusal> {
-    place(data, w.fixed.data_base, get(w, rs1).wrapping_add(off), size)
-}
-
-// In place: as a function of its own it makes a step of loads slower by a fifth.
-#[inline(always)]
-fn load(data: &[u8], kind: LoadKind, at: usize) -> u32 {
-    match kind {
-        LoadKind::B => data[at] as i8 as u32,
-        LoadKind::Bu => data[at].into(),
-        LoadKind::H => i16::from_le_bytes([data[at], data[at + 1]]) as u32,
-        LoadKind::Hu => u16::from_le_bytes([data[at], data[at + 1]]).into(),
-        LoadKind::W => {
-            let bytes = &data[at..at + 4];
-            u32::from_le_bytes([bytes[0], bytes[1], bytes[2], bytes[3]])
-        }
-    }
-}
-
-#[inline]
-fn store(data: &mut [u8], kind: StoreKind, at: usize, value: u32) {
-    match kind {
-        StoreKind::B => data[at] = value as u8,
-        StoreKind::H => data[at..at + 2].copy_from_slice(&(value as u16).to_le_bytes()),
-        StoreKind::W => data[at..at + 4].copy_from_slice(&value.to_le_bytes()),
-    }
+fn scalar_place<M: Memory + ?Sized>(
+    w: &Warp,
+    memory: &M,
+    rs1: X,
+    off: u32,
+    size: usize,
+) -> Result<usize, Refusal> {
+    memory.place(&w.fixed, get(w, rs1).wrapping_add(off), size)
 }
 
 /// The address of a lane's access at `u`, its base plus offset. Private: the lanes' first words
@@ -528,9 +498,9 @@ pub fn crosses(u: u32, size: usize) -> bool {
 /// Every active lane's place, tested before any lane acts: that none crosses, then that all are
 /// inside.
 #[inline]
-fn places(
+fn places<M: Memory + ?Sized>(
     w: &Warp,
-    data: &[u8],
+    memory: &M,
     bases: &[u32; LANES],
     space: Space,
     off: u32,
@@ -543,22 +513,34 @@ fn places(
     let mut at = [0; LANES];
     for lane in active(w.mask) {
         let address = address(&w.fixed, space, lane, u(lane));
-        at[lane] = place(data, w.fixed.data_base, address, size)?;
+        at[lane] = memory.place(&w.fixed, address, size)?;
     }
     Ok(at)
 }
 
 #[inline]
-fn load_lanes(mask: u32, d: &mut [u32; LANES], data: &[u8], kind: LoadKind, at: &[usize; LANES]) {
+fn load_lanes<M: Memory + ?Sized>(
+    mask: u32,
+    d: &mut [u32; LANES],
+    memory: &M,
+    kind: LoadKind,
+    at: &[usize; LANES],
+) {
     for lane in active(mask) {
-        d[lane] = load(data, kind, at[lane]);
+        d[lane] = memory.load(kind, at[lane]);
     }
 }
 
 /// Ascending, so that the highest lane wins a shared byte.
 #[inline]
-fn store_lanes(mask: u32, a: &[u32; LANES], data: &mut [u8], kind: StoreKind, at: &[usize; LANES]) {
+fn store_lanes<M: Memory + ?Sized>(
+    mask: u32,
+    a: &[u32; LANES],
+    memory: &mut M,
+    kind: StoreKind,
+    at: &[usize; LANES],
+) {
     for lane in active(mask) {
-        store(data, kind, at[lane], a[lane]);
+        memory.store(kind, at[lane], a[lane]);
     }
 }

@@ -14,7 +14,7 @@ use crate::table::{
 use crate::{card, run, saved};
 
 /// The words of a vector file, and lengths that are not a state's.
-const VECTOR: u32 = run::VECTOR_WORDS as u32;
+pub(crate) const VECTOR: u32 = run::VECTOR_WORDS as u32;
 pub const NO_STATE: [usize; 6] = [0, 1, 207, 240, 242, 256];
 
 /// xorshift64*, from fixed seeds.
@@ -224,7 +224,7 @@ pub fn low_mask(numt: u32) -> u32 {
     u32::MAX >> (32 - numt)
 }
 
-fn some_lanes(rng: &mut Rng, of: u32) -> u32 {
+pub(crate) fn some_lanes(rng: &mut Rng, of: u32) -> u32 {
     loop {
         let part = of & rng.word();
         if part != 0 {
@@ -346,7 +346,7 @@ fn open_splits(rng: &mut Rng, warp: &mut Warp, words: u32, depth: u32) {
     }
 }
 
-fn kernel_pc(rng: &mut Rng, f: &Fixed, words: u32) -> u32 {
+pub(crate) fn kernel_pc(rng: &mut Rng, f: &Fixed, words: u32) -> u32 {
     f.code_base.wrapping_add(4 * rng.below(words))
 }
 
@@ -607,37 +607,62 @@ fn uniforms(round: u32, t: &Table, out: &mut Vec<Case>) {
     }
 }
 
-/// Legal words in any order, some of them behind a prefix, from any well-formed state.
-fn soup(round: u32, t: &Table, out: &mut Vec<Case>) {
-    let mut rng = Rng::of_family(round, 2);
-    let rng = &mut rng;
-    let vector = t.with(|v| v.fixed & 0x7f == 0x57 && v.shape == Shape::Plain);
-    let memory = t.with(touches_memory);
-    let vbranch = t.with(Variant::is_vbranch);
-    let scalar = t.with(|v| {
-        !matches!(v.shape, Shape::Control | Shape::VmvXS | Shape::Prefix) && v.fixed & 0x7f != 0x57
-    });
-    for _ in 0..900 {
+/// Legal words in any order, some of them behind a prefix.
+pub(crate) struct Soup<'a> {
+    t: &'a Table,
+    vector: Vec<&'a Variant>,
+    memory: Vec<&'a Variant>,
+    vbranch: Vec<&'a Variant>,
+    scalar: Vec<&'a Variant>,
+}
+
+impl<'a> Soup<'a> {
+    pub(crate) fn new(t: &'a Table) -> Soup<'a> {
+        Soup {
+            t,
+            vector: t.with(|v| v.fixed & 0x7f == 0x57 && v.shape == Shape::Plain),
+            memory: t.with(touches_memory),
+            vbranch: t.with(Variant::is_vbranch),
+            scalar: t.with(|v| {
+                !matches!(v.shape, Shape::Control | Shape::VmvXS | Shape::Prefix)
+                    && v.fixed & 0x7f != 0x57
+            }),
+        }
+    }
+
+    /// A kernel, and how many of its words are jumped to: pairs can make it longer.
+    pub(crate) fn kernel(&self, rng: &mut Rng) -> (Vec<u32>, u32) {
         let words = 6 + rng.below(18);
         let mut kernel = Vec::new();
         while (kernel.len() as u32) < words {
             let at = kernel.len() as u32;
             let p = Place { at, words, forward: rng.chance(2), wild: true };
             let v = match rng.below(20) {
-                0..=4 => rng.pick(&vector),
-                5..=7 => rng.pick(&memory),
-                8..=10 => rng.pick(&vbranch),
-                11..=12 => t.get("join"),
-                13 => t.get("setrpc"),
-                14 if rng.chance(6) => t.get(rng.pick(&["endprg", "barrier"])),
-                15 if rng.chance(6) => t.get("vmv.x.s"),
-                _ => rng.pick(&scalar),
+                0..=4 => rng.pick(&self.vector),
+                5..=7 => rng.pick(&self.memory),
+                8..=10 => rng.pick(&self.vbranch),
+                11..=12 => self.t.get("join"),
+                13 => self.t.get("setrpc"),
+                14 if rng.chance(6) => self.t.get(rng.pick(&["endprg", "barrier"])),
+                15 if rng.chance(6) => self.t.get("vmv.x.s"),
+                _ => rng.pick(&self.scalar),
             };
             if rng.chance(if v.takes_regext() { 5 } else { 60 }) && !is_private(v) {
                 kernel.push(random_prefix(rng, v));
             }
-            push_drawn(rng, t, v, p, &mut kernel);
+            push_drawn(rng, self.t, v, p, &mut kernel);
         }
+        (kernel, words)
+    }
+}
+
+/// Such kernels from any well-formed state.
+fn soup(round: u32, t: &Table, out: &mut Vec<Case>) {
+    let mut rng = Rng::of_family(round, 2);
+    let rng = &mut rng;
+    let soup = Soup::new(t);
+    for _ in 0..900 {
+        let (kernel, words) = soup.kernel(rng);
         let g = ground(rng, kernel.len() as u32);
         let depth = rng.pick(&[0, 0, 0, 1, 2, 3, 4, 12]);
         let mut warp = if rng.chance(3) {
@@ -654,9 +679,9 @@ fn soup(round: u32, t: &Table, out: &mut Vec<Case>) {
 }
 
 /// Kernels with nested branches and loops, well and badly nested.
-struct Builder<'a> {
+pub(crate) struct Builder<'a> {
     t: &'a Table,
-    words: Vec<u32>,
+    pub(crate) words: Vec<u32>,
     limit: usize,
     /// One in this many constructs is badly nested; 0 for none.
     bad: u32,
@@ -666,7 +691,7 @@ struct Builder<'a> {
 }
 
 impl<'a> Builder<'a> {
-    fn new(t: &'a Table, limit: usize, bad: u32) -> Builder<'a> {
+    pub(crate) fn new(t: &'a Table, limit: usize, bad: u32) -> Builder<'a> {
         Builder {
             t,
             words: Vec::new(),
@@ -679,19 +704,19 @@ impl<'a> Builder<'a> {
             vbranch: t.with(Variant::is_vbranch),
         }
     }
-    fn op(&mut self, name: &str, fields: u32) {
+    pub(crate) fn op(&mut self, name: &str, fields: u32) {
         let word = self.t.fixed(name) | fields;
         self.words.push(word);
     }
-    fn here(&self) -> i32 {
+    pub(crate) fn here(&self) -> i32 {
         self.words.len() as i32 * 4
     }
     /// A place to be filled in later.
-    fn hole(&mut self) -> usize {
+    pub(crate) fn hole(&mut self) -> usize {
         self.words.push(NOP);
         self.words.len() - 1
     }
-    fn off(&self, hole: usize, to: i32) -> i32 {
+    pub(crate) fn off(&self, hole: usize, to: i32) -> i32 {
         to - hole as i32 * 4
     }
     fn goes_wrong(&self, rng: &mut Rng) -> bool {
@@ -699,7 +724,7 @@ impl<'a> Builder<'a> {
     }
 
     /// v1 = lane, v2 = an address, v3 = 0 to 28 in fours, x8 = the data base.
-    fn prelude(&mut self, rng: &mut Rng, data_base: u32) {
+    pub(crate) fn prelude(&mut self, rng: &mut Rng, data_base: u32) {
         self.op("vid.v", rd(1));
         let high = data_base.wrapping_add(0x800) & 0xffff_f000;
         self.op("lui", rd(8) | high);
@@ -718,7 +743,7 @@ impl<'a> Builder<'a> {
         }
     }
 
-    fn block(&mut self, rng: &mut Rng, depth: u32) {
+    pub(crate) fn block(&mut self, rng: &mut Rng, depth: u32) {
         for _ in 0..1 + rng.below(3) {
             if self.words.len() >= self.limit {
                 return;
@@ -798,7 +823,7 @@ impl<'a> Builder<'a> {
             self.t.fixed("setrpc") | rd(0) | rs1(30) | enc_i(self.off(holes.0, to));
     }
 
-    fn branch(&mut self, rng: &mut Rng, depth: u32) {
+    pub(crate) fn branch(&mut self, rng: &mut Rng, depth: u32) {
         let wrong = if self.goes_wrong(rng) { 1 + rng.below(6) } else { 0 };
         // 1: keep the rpc of whoever set it last.
         let rpc = if wrong == 1 { None } else { Some(self.rpc_holes()) };
@@ -833,7 +858,7 @@ impl<'a> Builder<'a> {
     }
 
     /// A loop that each lane leaves after its own number of turns.
-    fn turns(&mut self, rng: &mut Rng, depth: u32) {
+    pub(crate) fn turns(&mut self, rng: &mut Rng, depth: u32) {
         let (count, bound) = (16 + 2 * depth, 17 + 2 * depth);
         self.op("vmv.vi", rd(count));
         self.op("vand.vi", rd(bound) | rs2(1) | rs1(rng.pick(&[1, 3, 7, 15])));
@@ -1519,7 +1544,7 @@ fn random_launch(rng: &mut Rng) -> Launch {
 }
 
 /// Put one launch value out of range.
-fn spoil(rng: &mut Rng, w: &mut [u32; 14]) {
+pub(crate) fn spoil(rng: &mut Rng, w: &mut [u32; 14]) {
     match rng.below(9) {
         0 => w[0] = rng.pick(&[0, 33, 255, 64]),
         1 => w[1] = rng.pick(&[0, 33, 255]),
@@ -1552,7 +1577,7 @@ fn cards(round: u32, out: &mut Vec<Case>) {
 }
 
 /// The bytes of a card whatever its values.
-fn raw_card(w: &[u32; 14]) -> Vec<u8> {
+pub(crate) fn raw_card(w: &[u32; 14]) -> Vec<u8> {
     let mut card = vec![0, 48, 1, w[0] as u8, w[1] as u8, w[2] as u8];
     w[3..].iter().for_each(|word| card.extend(word.to_be_bytes()));
     card
@@ -1608,11 +1633,11 @@ fn cards_written(rng: &mut Rng, out: &mut Vec<Case>) {
 }
 
 /// The clauses that `break_state` knows, and those of them that it breaks by chance.
-const CLAUSES: u32 = 44;
+pub(crate) const CLAUSES: u32 = 44;
 const BY_CHANCE: u32 = 9;
 
 /// Break one clause of well-formedness, if the state allows it.
-fn break_state(rng: &mut Rng, w: &mut [u32], clause: u32) {
+pub(crate) fn break_state(rng: &mut Rng, w: &mut [u32], clause: u32) {
     let open = w[saved::OPEN_AT];
     let split = |n: u32, field: usize| saved::SPLITS_AT + 5 * n as usize + field;
     let at = saved::OPEN_AT;

@@ -7,9 +7,13 @@ pub mod card;
 pub mod case;
 pub mod exec;
 pub mod generate;
+pub mod generate_groups;
 pub mod generate_marks;
 mod generate_prefixes;
+pub mod group;
+mod group_kernels;
 pub mod isa;
+pub mod memory;
 pub mod print;
 pub mod run;
 pub mod saved;
@@ -37,7 +41,7 @@ pub enum Refusal {
     Csr = 7,
     /// 8: a taken jump or branch to a PC that is no multiple of 4.
     Target = 8,
-    /// 9: an access not wholly inside data memory.
+    /// 9: an access not wholly inside data memory, or in a group not wholly in one of its two.
     Access = 9,
     /// 10: vmv.x.s over lanes that differ.
     Differ = 10,

@@ -1,5 +1,6 @@
-//! The printout of a run, and what is printed of a mark.
+//! The printout of a run, of a warp's or a group's, and what is printed of a mark.
 
+use crate::group::{Group, Ran};
 use crate::sheet::Mark;
 use crate::state::Warp;
 use crate::Refusal;
@@ -8,6 +9,26 @@ use crate::Refusal;
 pub fn five_lines(code: u32, steps: u32, warp: &Warp) -> String {
     format!(
         "code {code}\nsteps {steps}\npc {:08x}\nmask {:08x}\nsplits {}\n",
+        warp.pc, warp.mask, warp.depth
+    )
+}
+
+/// Four lines after a launched group's run, and one a warp.
+pub fn group(ran: &Ran, group: &Group) -> String {
+    let stopped = ran.stopped.map_or("none".into(), |wid| wid.to_string());
+    let head =
+        format!("code {}\nstopped {stopped}\nsteps {}\nturn {}\n", ran.code, ran.steps, group.turn);
+    group.warps.iter().enumerate().fold(head, |lines, (n, warp)| lines + &warp_line(n, warp))
+}
+
+fn warp_line(number: usize, warp: &Warp) -> String {
+    let doing = match (warp.ended, warp.waiting) {
+        (true, _) => "ended",
+        (_, true) => "waiting",
+        _ => "running",
+    };
+    format!(
+        "warp {number} pc {:08x} mask {:08x} splits {} {doing}\n",
         warp.pc, warp.mask, warp.depth
     )
 }

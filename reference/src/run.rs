@@ -8,7 +8,7 @@ pub const KERNEL_WORDS: usize = 16_384;
 pub const VECTOR_WORDS: usize = 8_192;
 pub const DATA_BYTES: usize = 65_536;
 
-const SPACE: u64 = 1 << 32;
+pub(crate) const SPACE: u64 = 1 << 32;
 
 /// Refusal 1: the sizes of the lent runs and the bases plus lengths.
 pub fn test_runs(

@@ -18,8 +18,13 @@ pub const WAITING_AT: usize = OPEN_AT + 6;
 /// The kind of the pending prefix, and then its bits.
 pub const PREFIX_AT: usize = OPEN_AT + 7;
 pub const FIXED_AT: usize = OPEN_AT + 9;
-const CODE_BASE_AT: usize = FIXED_AT + 4;
-const DATA_BASE_AT: usize = FIXED_AT + 5;
+/// The values that the warps of a group share, and the one that tells them apart.
+pub const NUMT_AT: usize = FIXED_AT;
+pub const NUMW_AT: usize = FIXED_AT + 1;
+pub const WID_AT: usize = FIXED_AT + 2;
+pub const CODE_BASE_AT: usize = FIXED_AT + 4;
+pub const DATA_BASE_AT: usize = FIXED_AT + 5;
+pub const LDS_AT: usize = FIXED_AT + 8;
 
 pub fn to_words(warp: &Warp) -> [u32; WORDS] {
     let mut words = [0; WORDS];
@@ -112,7 +117,8 @@ fn splits_of(words: &[u32; WORDS]) -> Result<[Split; SPLITS], Refusal> {
     Ok(splits)
 }
 
-fn fixed_of(words: &[u32; WORDS]) -> Fixed {
+/// The launch values among a warp's 241 words.
+pub(crate) fn fixed_of(words: &[u32]) -> Fixed {
     Fixed {
         numt: words[FIXED_AT],
         numw: words[FIXED_AT + 1],

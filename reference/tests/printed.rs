@@ -1,5 +1,9 @@
-//! What the program `reference` prints of sheets, over the example folders.
+//! What the program `reference` prints of sheets, over the example folders, and of groups.
 
+use reference::generate::card_of;
+use reference::isa::ENDPRG;
+use reference::state::{Fixed, Launch};
+use reference::table::{Table, BARRIER, NOP};
 use std::path::{Path, PathBuf};
 use std::process::{Command, Output};
 
@@ -98,4 +102,124 @@ fn a_refused_sheet_is_not_written() {
     assert_eq!(refused.status.code(), Some(1));
     assert_eq!(String::from_utf8(refused.stderr).unwrap(), "refused 17: the run has no steps\n");
     assert_eq!(std::fs::read(out).unwrap(), b"before");
+}
+
+/// The cards of a group of so many warps.
+fn cards(warps: u32) -> Vec<u8> {
+    let card = |wid: u32| {
+        let (code_base, data_base, lds) = (0x8000_0000, 0x9000_0000, 0xa000_0000);
+        let fixed = Fixed {
+            numt: 4,
+            numw: warps,
+            wid,
+            mask: 0xf,
+            code_base,
+            data_base,
+            lds,
+            ..Fixed::default()
+        };
+        card_of(&Launch { fixed, entry: code_base })
+    };
+    (0..warps).flat_map(card).collect()
+}
+
+fn kernel(words: &[u32]) -> Vec<u8> {
+    words.iter().flat_map(|word| word.to_le_bytes()).collect()
+}
+
+fn group_printout(folder: &Path) -> String {
+    let printed = Command::new(env!("CARGO_BIN_EXE_reference"))
+        .arg("group")
+        .arg(folder)
+        .output()
+        .expect("the reference runs");
+    assert!(printed.status.success() && printed.stderr.is_empty());
+    String::from_utf8(printed.stdout).expect("text")
+}
+
+/// What is printed of a folder of one test's own, with these files.
+fn grouped(name: &str, files: &[(&str, &[u8])]) -> String {
+    let folder = Path::new(env!("CARGO_TARGET_TMPDIR")).join(name);
+    let _ = std::fs::remove_dir_all(&folder); // what an earlier run left
+    std::fs::create_dir(&folder).expect("a folder");
+    for (file, bytes) in files {
+        std::fs::write(folder.join(file), bytes).expect("a written file");
+    }
+    group_printout(&folder)
+}
+
+#[test]
+fn the_example_groups_print_what_is_stored() {
+    for name in ["group_sum", "group_race", "group_ended", "group_stop"] {
+        let expected = std::fs::read_to_string(example(name, "expected.txt")).expect("the lines");
+        assert_eq!(group_printout(&example(name, "")), expected, "{name}");
+    }
+}
+
+#[test]
+fn a_group_is_printed_warp_by_warp() {
+    let ended = "code 3\nstopped none\nsteps 4\nturn 0\n\
+        warp 0 pc 80000004 mask 0000000f splits 0 ended\n\
+        warp 1 pc 80000004 mask 0000000f splits 0 ended\n";
+    let files = [("cards.bin", &cards(2)[..]), ("kernel.bin", &kernel(&[NOP, ENDPRG]))];
+    assert_eq!(grouped("group-ended", &files), ended);
+    let for_ever = kernel(&[Table::whole().fixed("jal")]);
+    let printed = grouped("group-for-ever", &[("cards.bin", &cards(1)), ("kernel.bin", &for_ever)]);
+    let running = "code 0\nstopped none\nsteps 65536\nturn 0\n\
+        warp 0 pc 80000000 mask 0000000f splits 0 running\n";
+    assert_eq!(printed, running);
+}
+
+#[test]
+fn a_stopped_group_is_printed_with_its_wid() {
+    let t = &Table::whole();
+    // Warp 1 has x5 = 1 and reads at 1; the others arrive.
+    let words = [
+        t.fixed("csrrs") | 5 << 7 | 0x805 << 20,
+        t.fixed("addi") | 6 << 7 | 1 << 20,
+        t.fixed("bne") | 5 << 15 | 6 << 20 | 8 << 7,
+        t.fixed("lw") | 5 << 15,
+        BARRIER,
+    ];
+    let files = [("cards.bin", &cards(3)[..]), ("kernel.bin", &kernel(&words))];
+    let stopped = "code 9\nstopped 1\nsteps 10\nturn 1\n\
+        warp 0 pc 80000014 mask 0000000f splits 0 waiting\n\
+        warp 1 pc 8000000c mask 0000000f splits 0 running\n\
+        warp 2 pc 80000010 mask 0000000f splits 0 running\n";
+    assert_eq!(grouped("group-stopped", &files), stopped);
+}
+
+#[test]
+fn files_of_a_group_over_their_limits_are_1() {
+    let (cards, end) = (cards(2), kernel(&[ENDPRG]));
+    let printed = |name: &str, [cards, kernel, data, local]: [&[u8]; 4]| {
+        let files = [
+            ("cards.bin", cards),
+            ("kernel.bin", kernel),
+            ("data.bin", data),
+            ("local.bin", local),
+        ];
+        grouped(name, &files)
+    };
+    let (long, empty) = (&[0; 65_537][..], &[][..]);
+    let full = &long[1..];
+    let accepted = printed("group-largest", [&cards, &end.repeat(16_384), full, full]);
+    assert!(accepted.starts_with("code 3\n"));
+    for (name, files) in [
+        ("group-halves", [&cards[..], &end[..3], empty, empty]),
+        ("group-no-words", [&cards, empty, empty, empty]),
+        ("group-long-kernel", [&cards, &end.repeat(16_385), empty, empty]),
+        ("group-long-data", [&cards, &end, long, empty]),
+        ("group-long-local", [&cards, &end, empty, long]),
+        ("group-no-cards", [empty, &end, empty, empty]),
+        ("group-many-bytes", [&long[..1_601], &end, empty, empty]),
+        ("group-many-cards", [&long[..1_650], &end, empty, empty]),
+    ] {
+        assert_eq!(printed(name, files), "code 1\n", "{name}");
+    }
+    // The cards come first.
+    for (name, cards) in [("group-cut-card", &cards[..99]), ("group-bad-card", &long[..1_600])] {
+        assert_eq!(printed(name, [cards, empty, long, long]), "code 13\n", "{name}");
+    }
+    assert_eq!(grouped("group-no-files", &[]), "code 1\n");
 }

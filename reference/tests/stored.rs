@@ -1,5 +1,5 @@
-//! The stored files: the generated cases, the marking cases and their statistics are what the
-//! generators make, every stored answer is the reference's, and every published
+//! The stored files: the generated cases, the marking cases, the group cases and their statistics
+//! are what the generators make, every stored answer is the reference's, and every published
 //! program passes.
 
 use reference::case::{evaluate, read_file, write_file, Case};
@@ -10,6 +10,7 @@ use std::process::Command;
 const CASES: (&str, &[&str]) =
     ("test_cases", &["generated.bin", "riscv_tests.bin", "vector_ops.bin"]);
 const MARKS: (&str, &[&str]) = ("test_marks", &["marks.bin"]);
+const GROUPS: (&str, &[&str]) = ("test_groups", &["groups.bin"]);
 
 /// A file of a test program's folder.
 fn stored(program: &str, name: &str) -> PathBuf {
@@ -63,9 +64,15 @@ fn marking_cases_and_statistics_are_what_is_made() {
 }
 
 #[test]
+fn group_cases_and_statistics_are_what_is_made() {
+    assert!(made("check-groups", "test_groups", "groups.bin", "groups-statistics.txt") >= 900);
+}
+
+#[test]
 fn stored_answers_are_ours() {
     assert_stored_answers(CASES);
     assert_stored_answers(MARKS);
+    assert_stored_answers(GROUPS);
 }
 
 #[test]

@@ -2,6 +2,7 @@
 #![forbid(unsafe_code)]
 
 mod class;
+mod group;
 mod words;
 
 use linked::kernels::{subjects, Call, Subject, CODE_BASE, DATA_BASE, DATA_BYTES};
@@ -12,10 +13,10 @@ use reference::{run, saved, Refusal};
 use std::process::ExitCode;
 use std::time::Instant;
 
-const USAGE: &str =
-    "usage: timing [REPETITIONS], or timing class [REPETITIONS], or timing words [REPETITIONS]
+const USAGE: &str = "usage: timing [REPETITIONS], or timing class|group|words [REPETITIONS]
     REPETITIONS  how often each machine runs each kernel, 1 to 65535; 201 if not given
     class        mark a class's sheets instead
+    group        run a group of warps instead, and the same warps alone
     words        decode single words instead";
 
 /// The part of the times that the ratio is taken at: what a run takes when little disturbs it.
@@ -23,7 +24,7 @@ const LOW: usize = 5;
 
 fn main() -> ExitCode {
     let mut arguments = std::env::args().skip(1).peekable();
-    let what = arguments.next_if(|first| first == "class" || first == "words");
+    let what = arguments.next_if(|first| ["class", "group", "words"].contains(&&first[..]));
     let repetitions = number_or::<u16>(arguments.next(), "REPETITIONS", 201);
     match (repetitions, arguments.next()) {
         (Ok(0), _) => usage_error("REPETITIONS is 0", USAGE),
@@ -31,6 +32,7 @@ fn main() -> ExitCode {
         (Err(wrong), _) => usage_error(&wrong, USAGE),
         (Ok(repetitions), None) => match what.as_deref() {
             Some("class") => class::report(repetitions),
+            Some("group") => group::report(repetitions),
             Some(_) => words::report(repetitions),
             None => report(repetitions),
         },
@@ -40,15 +42,14 @@ fn main() -> ExitCode {
 fn report(repetitions: u16) -> ExitCode {
     println!("{repetitions} times each machine, taking turns; nanoseconds a step at {LOW} % of the times, and the median");
     println!("before each time, outside it, the state is the launched one, vector file and data are all zeros");
-    println!("| Kernel       |  Steps | Library |  median | Reference |  median | Ratio |");
-    println!("|--------------|--------|---------|---------|-----------|---------|-------|");
+    println!("{}", head("Kernel"));
     for subject in &subjects() {
         let launched = launched(subject);
         match equal_ends(subject, &launched) {
             Some(steps) => {
                 let ours = || timed::<Linked>(subject, &launched).2;
                 let theirs = || timed::<Reference>(subject, &launched).2;
-                println!("{}", line(subject, steps, &measure(repetitions, ours, theirs)))
+                println!("{}", line(subject.name, steps, &measure(repetitions, ours, theirs)))
             }
             None => {
                 println!("{}: the two machines end apart; see compare", subject.name);
@@ -59,21 +60,34 @@ fn report(repetitions: u16) -> ExitCode {
     ExitCode::SUCCESS
 }
 
-fn line(subject: &Subject, steps: u32, times: &Timed) -> String {
+/// The first two lines of a table of steps.
+fn head(what: &str) -> String {
+    format!(
+        "| {what:<12} |  Steps | Library |  median | Reference |  median | Ratio |
+|--------------|--------|---------|---------|-----------|---------|-------|"
+    )
+}
+
+fn line(name: &str, steps: u32, times: &Timed) -> String {
     let [ours, our_median, theirs, their_median] =
         times.low_and_median().map(|time| time / f64::from(steps));
     format!(
-        "| {:<12} | {steps:>6} | {ours:>7.2} | {our_median:>7.2} | {theirs:>9.2} | {their_median:>7.2} | {:>5.3} |",
-        subject.name,
+        "| {name:<12} | {steps:>6} | {ours:>7.2} | {our_median:>7.2} | {theirs:>9.2} | {their_median:>7.2} | {:>5.3} |",
         times.ratio()
     )
 }
 
 /// A warp of 32 lanes, those of the mask launched, at the kernel's first word.
 fn card_bytes(subject: &Subject) -> Vec<u8> {
+    card_of_warp(subject, 0, 1)
+}
+
+/// The same as one of a group's warps.
+fn card_of_warp(subject: &Subject, wid: u32, numw: u32) -> Vec<u8> {
     let fixed = Fixed {
         numt: 32,
-        numw: 1,
+        numw,
+        wid,
         mask: subject.mask,
         code_base: CODE_BASE,
         data_base: DATA_BASE,
@@ -88,6 +102,7 @@ fn unlaunched() -> Lent {
         state: vec![0; saved::WORDS],
         vector: vec![0; run::VECTOR_WORDS],
         data: vec![0; DATA_BYTES],
+        local: vec![],
         words: vec![0],
         target: vec![],
     }
@@ -137,20 +152,20 @@ struct Timed {
     theirs: Vec<f64>,
 }
 
-/// The two begin in turn.
 fn measure(repetitions: u16, ours: impl Fn() -> f64, theirs: impl Fn() -> f64) -> Timed {
-    let mut times = Timed { ours: Vec::new(), theirs: Vec::new() };
-    for n in 0..repetitions {
-        if n % 2 == 0 {
-            times.ours.push(ours());
-            times.theirs.push(theirs());
-        } else {
-            times.theirs.push(theirs());
-            times.ours.push(ours());
+    let [ours, theirs] = in_turn(repetitions, [&ours, &theirs]);
+    Timed { ours, theirs }
+}
+
+/// The sorted times of each side; the sides begin in turn.
+fn in_turn<const N: usize>(repetitions: u16, sides: [&dyn Fn() -> f64; N]) -> [Vec<f64>; N] {
+    let mut times = sides.map(|_| Vec::new());
+    for n in 0..usize::from(repetitions) {
+        for side in (0..N).map(|k| (n + k) % N) {
+            times[side].push(sides[side]());
         }
     }
-    times.ours.sort_by(f64::total_cmp);
-    times.theirs.sort_by(f64::total_cmp);
+    times.iter_mut().for_each(|times| times.sort_by(f64::total_cmp));
     times
 }
 

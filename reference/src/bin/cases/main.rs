@@ -2,21 +2,25 @@
 //!
 //! `cases make FILE` writes the generated case file (statistics on stderr);
 //! `cases check FILE` fails unless the file is what `make` makes;
-//! `cases make-marks FILE` and `cases check-marks FILE` do the same with the marking cases;
+//! `cases make-marks FILE` and `cases check-marks FILE` do the same with the marking cases,
+//! `cases make-groups FILE` and `cases check-groups FILE` with the group cases;
 //! `cases answer FILE...` prints the reference's answers to case files, one
 //! file after the other.
 
+mod counts;
+mod group_statistics;
 mod mark_statistics;
 mod prefix_statistics;
 
 use prefix_statistics::Prefixes;
 use reference::case::{evaluate, read_file, write_file, Answer, Case};
 use reference::generate::{all_cases, low_mask};
+use reference::generate_groups::group_cases;
 use reference::generate_marks::mark_cases;
 use reference::isa::{decode_after, Insn, Space};
 use reference::state::{Warp, LANES};
 use reference::table::{name, variants};
-use reference::{card, exec, run, saved};
+use reference::{card, exec, memory, run, saved};
 use std::collections::BTreeMap;
 use std::process::ExitCode;
 
@@ -24,6 +28,8 @@ const USAGE: &str = "usage: cases make FILE
        cases check FILE
        cases make-marks FILE
        cases check-marks FILE
+       cases make-groups FILE
+       cases check-groups FILE
        cases answer FILE...";
 
 fn main() -> ExitCode {
@@ -34,6 +40,8 @@ fn main() -> ExitCode {
         ["check", file] => GENERATED.check(file),
         ["make-marks", file] => MARKS.write(file),
         ["check-marks", file] => MARKS.check(file),
+        ["make-groups", file] => GROUPS.write(file),
+        ["check-groups", file] => GROUPS.check(file),
         ["answer", ref files @ ..] if !files.is_empty() => answer(files),
         _ => {
             eprintln!("{USAGE}");
@@ -65,6 +73,7 @@ struct Made {
 
 const GENERATED: Made = Made { cases: all_cases, statistics };
 const MARKS: Made = Made { cases: mark_cases, statistics: mark_statistics::statistics };
+const GROUPS: Made = Made { cases: group_cases, statistics: group_statistics::statistics };
 
 impl Made {
     fn make(&self) -> Vec<u8> {
@@ -221,6 +230,9 @@ impl Stats {
             Case::CardWrite { .. } => "card write",
             Case::Mark { .. } => "mark",
             Case::Sheet { .. } => "sheet",
+            Case::GroupLaunch { .. } => "group launch",
+            Case::GroupStep { .. } => "group step",
+            Case::GroupRun { .. } => "group run",
         };
         *self.kinds.entry(kind).or_default() += 1;
     }
@@ -245,10 +257,10 @@ fn event(name: &str, before: &Warp, after: &Warp) -> Option<&'static str> {
 fn private_us(insn: &Insn, vector: &[u32]) -> Option<(Vec<u32>, usize)> {
     let (vs1, off, size) = match *insn {
         Insn::Vload { space: Space::Private, kind, vs1, off, .. } => {
-            (vs1, off, exec::load_size(kind))
+            (vs1, off, memory::load_size(kind))
         }
         Insn::Vstore { space: Space::Private, kind, vs1, off, .. } => {
-            (vs1, off, exec::store_size(kind))
+            (vs1, off, memory::store_size(kind))
         }
         _ => return None,
     };
@@ -262,7 +274,7 @@ fn private_facts(warp: &Warp, data: &[u8], us: &[u32], size: usize) -> Vec<&'sta
     let crossing = mask_of(|lane| exec::crosses(us[lane], size));
     let outside = mask_of(|lane| {
         let address = exec::address(f, Space::Private, lane, us[lane]);
-        exec::place(data, f.data_base, address, size).is_err()
+        memory::place(data, f.data_base, address, size).is_err()
     });
     let large = mask_of(|lane| us[lane] >= 1024);
     let wrapping = mask_of(|lane| {

@@ -1,11 +1,11 @@
 //! What the marking cases cover.
 
+use crate::counts::{count, each, print, Counts};
 use reference::case::{evaluate, Case, Job, Said};
 use reference::generate_marks::end_and_steps;
 use reference::isa::{decode, Insn};
 use reference::sheet::{steps_of, STEP_BYTES};
 use reference::{card, run};
-use std::collections::BTreeMap;
 
 /// How often each should occur at least.
 const FEWEST: u32 = 20;
@@ -14,8 +14,6 @@ const MARKS: [&str; 4] = ["full", "differs", "short", "long"];
 
 /// The fields of a step, and where each begins.
 const FIELDS: [(&str, usize); 4] = [("pc", 0), ("word", 4), ("mask", 8), ("splits", 12)];
-
-type Counts = BTreeMap<String, u32>;
 
 #[derive(Default)]
 struct Stats {
@@ -37,10 +35,6 @@ struct Stats {
     longest_run: usize,
     longest_sheet: usize,
     deepest: u8,
-}
-
-fn count(counts: &mut Counts, what: impl ToString) {
-    *counts.entry(what.to_string()).or_default() += 1;
 }
 
 /// The first test that a case refused with 1 fails.
@@ -140,10 +134,6 @@ impl Stats {
 
     /// What should occur, and how often it does.
     fn wanted(&self) -> Vec<(String, u32)> {
-        let each = |counts: &Counts, wanted: &[&str]| -> Vec<(String, u32)> {
-            let times = |what: &&str| (what.to_string(), counts.get(*what).copied().unwrap_or(0));
-            wanted.iter().map(times).collect()
-        };
         [
             each(&self.codes, &["mark 0", "mark 1", "mark 13", "mark 16", "mark 17"]),
             each(&self.codes, &["sheet 0", "sheet 1", "sheet 13", "sheet 17"]),
@@ -165,7 +155,7 @@ pub fn statistics(cases: &[Case], file: usize) {
         stats.steps, stats.longest_run, stats.longest_sheet, stats.deepest
     );
     eprintln!("prefixes {}, in {} runs", stats.prefixes, stats.prefixed_runs);
-    for (name, counts) in [
+    let named = [
         ("kinds", &stats.kinds),
         ("codes", &stats.codes),
         ("refused with 1", &stats.sizes),
@@ -174,10 +164,6 @@ pub fn statistics(cases: &[Case], file: usize) {
         ("that step on its sheet", &stats.places),
         ("ends of runs", &stats.ends),
         ("first steps refused", &stats.first),
-    ] {
-        eprintln!("{name} {counts:?}");
-    }
-    for (what, times) in stats.wanted().iter().filter(|(_, times)| *times < FEWEST) {
-        eprintln!("TOO FEW: {what} occurs {times} times");
-    }
+    ];
+    print(&named, &stats.wanted(), FEWEST);
 }

@@ -1,6 +1,8 @@
 //! Makes the same calls on the proved library and on the reference, and stops at the first
-//! difference in an answer, its words, a state, a vector file, data or a written sheet.
+//! difference in an answer, its words, a state, a vector file, a memory or a written sheet.
 #![forbid(unsafe_code)]
+
+mod groups;
 
 use linked::{number_or, usage_error, Lent, Linked, Machine, Reference};
 use reference::case::{target_bytes, Case, Job};
@@ -13,10 +15,12 @@ use std::collections::BTreeMap;
 use std::fmt::LowerHex;
 use std::process::ExitCode;
 
-const USAGE: &str = "usage: compare [SEED [STEPS]], or compare words
-    SEED   the first round's number, 0 to 4294967295; 1 if not given
-    STEPS  rounds are played until this many steps are taken; 5000000 if not given
-    words  decode each of the 2^32 words and do nothing else";
+const USAGE: &str =
+    "usage: compare [SEED [STEPS]], or compare groups [SEED [STEPS]], or compare words
+    SEED    the first round's number, 0 to 4294967295; 1 if not given
+    STEPS   rounds are played until this many steps are taken; 5000000 if not given
+    groups  play the rounds of groups instead, and count their steps
+    words   decode each of the 2^32 words and do nothing else";
 
 /// How many words a round decodes besides those that its kernels run into.
 const DECODED: u32 = 100_000;
@@ -26,28 +30,33 @@ const RELEASES: u32 = 8;
 const STEPS_AFTER_RELEASE: u32 = 200;
 
 fn main() -> ExitCode {
-    let mut arguments = std::env::args().skip(1);
+    let mut arguments = std::env::args().skip(1).peekable();
+    let groups = arguments.next_if(|first| first == "groups").is_some();
     let (first, second, third) = (arguments.next(), arguments.next(), arguments.next());
-    if first.as_deref() == Some("words") && second.is_none() {
+    if !groups && first.as_deref() == Some("words") && second.is_none() {
         return all_words();
     }
     let numbers = number_or(first, "SEED", 1)
         .and_then(|seed| Ok((seed, number_or(second, "STEPS", 5_000_000)?)));
     match (numbers, third) {
-        (Ok((seed, steps)), None) => rounds(seed, steps),
+        (Ok((seed, steps)), None) => rounds(seed, steps, groups),
         (Ok(_), Some(_)) => usage_error("too many arguments", USAGE),
         (Err(wrong), _) => usage_error(&wrong, USAGE),
     }
 }
 
-/// Plays rounds from number `seed` on until `steps` steps are taken.
-fn rounds(seed: u32, steps: u64) -> ExitCode {
+/// Plays rounds, of groups or of the other calls, from number `seed` on until `steps` steps are
+/// taken.
+fn rounds(seed: u32, steps: u64, groups: bool) -> ExitCode {
     let mut seen = Seen::default();
     let mut round = seed;
     loop {
-        if let Err(difference) = Round::new(round, &mut seen).play() {
+        let mut next = Round::new(round, &mut seen);
+        let played = if groups { next.play_groups() } else { next.play() };
+        if let Err(difference) = played {
+            let again = if groups { "compare groups" } else { "compare" };
             println!(
-                "DIFFERENCE in round {round}, {difference}\nrepeat it with: compare {round} 1"
+                "DIFFERENCE in round {round}, {difference}\nrepeat it with: {again} {round} 1"
             );
             return ExitCode::FAILURE;
         }
@@ -57,7 +66,8 @@ fn rounds(seed: u32, steps: u64) -> ExitCode {
         round = round.wrapping_add(1);
     }
     seen.print();
-    println!("total: rounds {seed} to {round}, {} steps, 0 differences", seen.steps);
+    let what = if groups { "group steps" } else { "steps" };
+    println!("total: rounds {seed} to {round}, {} {what}, 0 differences", seen.steps);
     ExitCode::SUCCESS
 }
 
@@ -94,6 +104,9 @@ enum Call<'a> {
     Release,
     Mark(&'a [u8], &'a [u8]),
     WriteSheet(&'a [u8]),
+    GroupLaunch(&'a [u8]),
+    GroupStep,
+    GroupRun(u32),
 }
 
 impl Call<'_> {
@@ -105,12 +118,16 @@ impl Call<'_> {
             Call::Release => M::release(&mut lent.state),
             Call::Mark(card, sheet) => M::mark(card, kernel, sheet, lent),
             Call::WriteSheet(card) => M::write_sheet(card, kernel, lent),
+            Call::GroupLaunch(cards) => M::group_launch(cards, kernel, lent),
+            Call::GroupStep => M::group_step(kernel, lent),
+            Call::GroupRun(budget) => M::group_run(kernel, budget, lent),
         }
     }
 
-    /// For a message: a sheet is too long for one.
+    /// For a message: a sheet, or all cards of a group, are too long for one.
     fn shown(&self) -> String {
         match self {
+            Call::GroupLaunch(cards) => format!("GroupLaunch({} bytes)", cards.len()),
             Call::Mark(card, sheet) => format!("Mark({card:?}, {} bytes)", sheet.len()),
             other => format!("{other:?}"),
         }
@@ -124,6 +141,9 @@ impl Call<'_> {
             Call::Release => "release",
             Call::Mark(..) => "mark",
             Call::WriteSheet(_) => "written sheet",
+            Call::GroupLaunch(_) => "group launch",
+            Call::GroupStep => "group step",
+            Call::GroupRun(_) => "group run",
         }
     }
 }
@@ -153,6 +173,7 @@ struct Seen {
     steps: u64,
     prefixes: [u64; 2],
     behind: [BTreeMap<u32, u64>; 2],
+    groups: groups::SeenOfGroups,
 }
 
 /// The kinds of a prefix, as a state has them from 1 on.
@@ -185,7 +206,11 @@ impl Seen {
         for (kind, answers) in &self.answers {
             println!("{kind}: {} calls compared; by answer {}", sum(answers), each(answers));
         }
-        for ((name, taken), answers) in PREFIXES.iter().zip(self.prefixes).zip(&self.behind) {
+        self.groups.print();
+        for ((name, taken), answers) in PREFIXES.iter().zip(&self.prefixes).zip(&self.behind) {
+            if *taken == 0 && answers.is_empty() {
+                continue;
+            }
             let words = answers.get(&0).copied().unwrap_or(0);
             let refused = sum(answers) - words;
             println!(
@@ -249,11 +274,15 @@ impl Round<'_> {
             Case::CardWrite { .. } => Ok(()),
             Case::Mark { job, sheet, result } => self.mark(job, sheet, *result).map(|_| ()),
             Case::Sheet { job, target, written } => self.write_sheet(job, *target, *written),
+            Case::GroupLaunch { .. } | Case::GroupStep { .. } | Case::GroupRun { .. } => {
+                self.group_case(case)
+            }
         }
     }
 
     fn pair(&mut self, state: Vec<u32>, vector: Vec<u32>, data: Vec<u8>) -> Pair {
-        Pair::of(Lent { state, vector, data, words: self.words(1), target: vec![] })
+        let words = self.words(1);
+        Pair::of(Lent { state, vector, data, words, local: vec![], target: vec![] })
     }
 
     /// What the words of an answer hold before it.
@@ -400,6 +429,7 @@ fn first_difference(ours: &Lent, theirs: &Lent) -> String {
         first_place("state word", &ours.state, &theirs.state),
         first_place("vector word", &ours.vector, &theirs.vector),
         first_place("data byte", &ours.data, &theirs.data),
+        first_place("local byte", &ours.local, &theirs.local),
         first_place("word of the answer", &ours.words, &theirs.words),
         first_place("target byte", &ours.target, &theirs.target),
     ];

@@ -1,0 +1,3 @@
+pub mod Group
+pub mod GroupRefuse
+pub mod GroupCalls

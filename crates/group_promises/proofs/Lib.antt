@@ -1,0 +1,10 @@
+pub mod Steps
+pub mod Refusals
+pub mod Goes
+pub mod Reached
+pub mod Runs
+pub mod Fair
+pub mod Barrier
+pub mod OneWarp
+pub mod Determined
+pub mod Worked

@@ -1,0 +1,9 @@
+pub mod Steps
+pub mod Reached
+pub mod Refusals
+pub mod Runs
+pub mod Fair
+pub mod Barrier
+pub mod OneWarp
+pub mod Determined
+pub mod Worked

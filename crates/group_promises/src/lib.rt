@@ -1,0 +1,1 @@
+// The promises of a group of warps: statements in specs/, their proofs in proofs/. No code.

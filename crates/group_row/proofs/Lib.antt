@@ -1,0 +1,4 @@
+pub mod Rows
+pub mod Again
+pub mod Calls
+pub mod Common

@@ -1,0 +1,2 @@
+pub mod GroupState
+pub mod Got
