@@ -2,7 +2,7 @@
 
 use std::path::Path;
 
-const CRATES: [&str; 4] = ["capi", "capi_words", "capi_sheet", "capi_group"];
+const CRATES: [&str; 5] = ["capi", "capi_words", "capi_sheet", "capi_group", "group_row"];
 
 fn main() {
     let folder = std::env::var("CARGO_MANIFEST_DIR").expect("cargo names the package's folder");

@@ -1,5 +1,5 @@
 #!/bin/sh
-# tools/timing.sh [REPETITIONS]: times the proved library against the reference. Builds the four libraries for the machine at hand,
+# tools/timing.sh [REPETITIONS]: times the proved library against the reference. Builds the five libraries for the machine at hand,
 # runs `compare` and `compare groups`, which must find no difference, then `timing` in four processes, and prints a table of their
 # medians, and last `timing words`, `timing class` and `timing group`. No time is held to anything, and no other work should run beside it (docs/SPEED.md).
 set -eu
@@ -17,8 +17,8 @@ trap 'rm -rf "$work"' EXIT
 # what a build prints is kept in a file, and looked at only where it fails
 build() { "$@" >>target/timing.log 2>&1 || { echo "timing.sh: this failed, and target/timing.log says why: $*" >&2; exit 1; }; }
 : >target/timing.log
-echo 'timing.sh: proving and building the four libraries' >&2
-for crate in capi capi_words capi_sheet capi_group; do
+echo 'timing.sh: proving and building the five libraries' >&2
+for crate in capi capi_words capi_sheet capi_group group_row; do
     build tools/static_library.sh "$crate" "linked/lib$crate.a"
 done
 build cargo build --release --manifest-path linked/Cargo.toml

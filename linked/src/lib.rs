@@ -6,10 +6,12 @@ pub mod kernels;
 #[allow(unsafe_code)]
 mod library;
 mod plain;
+mod warps;
 
 pub use arguments::{number_or, usage_error};
 pub use library::Linked;
 pub use plain::Reference;
+pub use warps::stands_for_warps;
 
 /// All that a call may change.
 #[derive(Clone, Debug, PartialEq, Eq)]
@@ -27,7 +29,7 @@ pub struct Lent {
     pub target: Vec<u8>,
 }
 
-/// The ten calls, as docs/FILES.md has them.
+/// The eleven calls, as docs/FILES.md has them.
 pub trait Machine {
     fn launch(card: &[u8], kernel: &[u32], lent: &mut Lent) -> u32;
     fn step(kernel: &[u32], lent: &mut Lent) -> u32;
@@ -39,4 +41,6 @@ pub trait Machine {
     fn group_launch(cards: &[u8], kernel: &[u32], lent: &mut Lent) -> u32;
     fn group_step(kernel: &[u32], lent: &mut Lent) -> u32;
     fn group_run(kernel: &[u32], budget: u32, lent: &mut Lent) -> u32;
+    /// Of the warps that the state stands for, with one word for the WID.
+    fn step_warps(kernel: &[u32], lent: &mut Lent) -> u32;
 }

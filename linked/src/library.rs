@@ -1,10 +1,13 @@
-//! The ten calls of the four linked libraries, made safe. Nothing checks these declarations
-//! against src/lib.rt of crates capi, capi_words, capi_sheet and capi_group: a slice is passed as
-//! its pointer and then its length in elements.
+//! The eleven calls of the five linked libraries, made safe. Nothing checks these declarations
+//! against src/lib.rt of crates capi, capi_words, capi_sheet, capi_group and group_row: a slice is
+//! passed as its pointer and then its length in elements.
 
+use crate::warps::{save, warps_of};
 use crate::{Lent, Machine};
 
 mod c {
+    use crate::warps::{Stepped, Warp};
+
     extern "C" {
         pub fn bench_launch(
             card: *const u8,
@@ -114,6 +117,19 @@ mod c {
             out: *mut u32,
             out_words: usize,
         ) -> u32;
+        pub fn bench_step_warps(
+            warps: *mut Warp,
+            count: usize,
+            turn: u32,
+            kernel: *const u32,
+            kernel_words: usize,
+            vector: *mut u32,
+            vector_words: usize,
+            data: *mut u8,
+            data_bytes: usize,
+            local: *mut u8,
+            local_bytes: usize,
+        ) -> Stepped;
     }
 }
 
@@ -283,5 +299,29 @@ impl Machine for Linked {
                 words.len(),
             )
         }
+    }
+
+    fn step_warps(kernel: &[u32], lent: &mut Lent) -> u32 {
+        let Lent { state, vector, data, local, words, .. } = lent;
+        let (turn, each) = state.split_first_mut().expect("a turn");
+        let mut warps = warps_of(each).expect("words that stand for warps");
+        let stepped = unsafe {
+            c::bench_step_warps(
+                warps.as_mut_ptr(),
+                warps.len(),
+                *turn,
+                kernel.as_ptr(),
+                kernel.len(),
+                vector.as_mut_ptr(),
+                vector.len(),
+                data.as_mut_ptr(),
+                data.len(),
+                local.as_mut_ptr(),
+                local.len(),
+            )
+        };
+        save(&warps, each);
+        (*turn, words[0]) = (stepped.turn, stepped.stopped);
+        stepped.code
     }
 }

@@ -1,4 +1,4 @@
-//! The reference behind the ten calls.
+//! The reference behind the eleven calls.
 
 use crate::{Lent, Machine};
 use reference::{group, isa, saved, sheet, Refusal};
@@ -56,5 +56,9 @@ impl Machine for Reference {
     fn group_run(kernel: &[u32], budget: u32, lent: &mut Lent) -> u32 {
         let Lent { state, vector, data, local, words, .. } = lent;
         group::run(state, kernel, vector, data, local, budget, words)
+    }
+
+    fn step_warps(kernel: &[u32], lent: &mut Lent) -> u32 {
+        Self::group_step(kernel, lent)
     }
 }

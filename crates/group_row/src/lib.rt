@@ -14,6 +14,7 @@ ghost use Rattle.group_machine.specs.Held.{noWarp, held, heldStepOf, Kept};
 ghost use Rattle.group_row.specs.Row.{roomOf, heldOf, overlaid, rowStepOf};
 
 // How a step ended: its number, the warp that stopped the group, and the turn.
+#[repr(C)]
 pub struct Stepped {
     pub code: u32,
     pub stopped: u32,
@@ -120,7 +121,8 @@ fn scatter(ws: &mut [Warp], g: Group)
 }
 
 // One step of the warps in a lent run.
-pub fn step_warps(
+#[no_mangle]
+pub extern "C" fn bench_step_warps(
     ws: &mut [Warp],
     turn: u32,
     kernel: &[u32],

@@ -45,6 +45,7 @@ pub struct VecArgs {
 }
 
 // A pending prefix: its kind, 0 where none is pending, 1 REGEXT, 2 REGEXTI, and its 12 bits.
+#[repr(C)]
 pub struct Prefix {
     pub kind: u32,
     pub bits: u32,

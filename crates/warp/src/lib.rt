@@ -14,6 +14,7 @@ const WARPS: u32 = 32;
 pub const SPLITS: usize = 31;
 
 // An open split: the lanes of elseMask want elsePc; in phase two they run.
+#[repr(C)]
 pub struct Split {
     pub rpc: u32,
     pub full: u32,
@@ -23,6 +24,7 @@ pub struct Split {
 }
 
 // What a launch sets and no step changes.
+#[repr(C)]
 pub struct Fixed {
     pub numt: u32,
     pub numw: u32,
@@ -39,12 +41,14 @@ pub struct Fixed {
     pub gidz: u32,
 }
 
+#[repr(C)]
 pub struct Launch {
     pub fixed: Fixed,
     pub entry: u32,
 }
 
 // depth counts the open splits; the last of them is splits[depth - 1].
+#[repr(C)]
 pub struct Warp {
     pub x: [u32; 64],
     pub splits: [Split; 31],

@@ -1,14 +1,18 @@
 //! The rounds of groups: launches, single steps and runs.
 
 use crate::{each, first_difference, Call, Pair, Round};
-use linked::Lent;
+use linked::{stands_for_warps, Lent};
 use reference::case::{Case, Data, GroupLent, Handed, Job};
 use reference::generate_groups::group_cases;
+use reference::group::{state_words, WARPS};
+use reference::run::VECTOR_WORDS;
 use reference::saved::{WAITING_AT, WORDS};
 use std::collections::BTreeMap;
 
 /// What a group that is handed in is run and stepped for, after its own case.
 const STEPS_ON: u32 = 60;
+
+const STEP_WARPS: &str = "bench_step_warps";
 
 /// Of the groups that were stepped: how many had so many warps, and how often all that waited were
 /// released.
@@ -89,6 +93,10 @@ impl Round<'_> {
         let mut own = pair.clone();
         own.set_words(self.words(words));
         self.both(&call, &kernel, &mut own)?;
+        if matches!(call, Call::GroupStep) {
+            self.step_warps(STEP_WARPS, &kernel, &mut pair.clone())?;
+            self.step_odd_warps(&kernel, &pair)?;
+        }
         let budget = match call {
             Call::GroupRun(budget) => budget.min(STEPS_ON),
             _ => self.rng.below(STEPS_ON),
@@ -138,14 +146,16 @@ impl Round<'_> {
         Ok(Ended { code, steps, wid })
     }
 
-    /// Single steps to the first refusal.
+    /// Single steps to the first refusal, each taken of the words and of lent warps.
     fn step_group(
         &mut self,
         kernel: &[u32],
         pair: &mut Pair,
         budget: u32,
     ) -> Result<Ended, String> {
+        let mut lent_warps = pair.clone();
         for steps in 0..budget {
+            self.step_warps(STEP_WARPS, kernel, &mut lent_warps)?;
             pair.set_words(self.words(1));
             let before = waiting(&pair.linked.state);
             let code = self.both(&Call::GroupStep, kernel, pair)?;
@@ -158,6 +168,47 @@ impl Round<'_> {
         }
         Ok(Ended { code: 0, steps: budget, wid: 0 })
     }
+
+    /// A step of the warps that the words stand for, if they do.
+    fn step_warps(
+        &mut self,
+        name: &'static str,
+        kernel: &[u32],
+        pair: &mut Pair,
+    ) -> Result<(), String> {
+        if !stands_for_warps(&pair.linked.state) {
+            return Ok(());
+        }
+        pair.set_words(vec![u32::MAX]); // no WID, so that one which is not written is seen
+        self.both(&Call::StepWarps(name), kernel, pair).map(|_| ())
+    }
+
+    /// The same warps with a turn that names none of them, no warps, and more than a group has.
+    fn step_odd_warps(&mut self, kernel: &[u32], pair: &Pair) -> Result<(), String> {
+        let lent = &pair.linked;
+        if !stands_for_warps(&lent.state) {
+            return Ok(());
+        }
+        let (turn, own) = (lent.state[0], lent.state.len() / WORDS);
+        for (name, turn, warps, files) in [
+            ("bench_step_warps, turn past the last", own as u32, own, own),
+            ("bench_step_warps, largest turn", u32::MAX, own, own),
+            ("bench_step_warps, no warps", turn, 0, 0),
+            ("bench_step_warps, 33 warps", turn, WARPS + 1, WARPS + 1),
+            ("bench_step_warps, 33 warps and 32 files", turn, WARPS + 1, WARPS),
+        ] {
+            self.step_warps(name, kernel, &mut Pair::of(repeated(lent, turn, warps, files)))?;
+        }
+        Ok(())
+    }
+}
+
+/// With another turn, and so many warps and vector files: the same ones again and again.
+fn repeated(lent: &Lent, turn: u32, warps: usize, files: usize) -> Lent {
+    let each = lent.state[1..].iter().copied().cycle();
+    let state = std::iter::once(turn).chain(each).take(state_words(warps)).collect();
+    let vector = lent.vector.iter().copied().cycle().take(VECTOR_WORDS * files).collect();
+    Lent { state, vector, ..lent.clone() }
 }
 
 /// How a run, or steps in its place, ended.

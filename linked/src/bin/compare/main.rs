@@ -107,6 +107,8 @@ enum Call<'a> {
     GroupLaunch(&'a [u8]),
     GroupStep,
     GroupRun(u32),
+    /// By the name that it is counted under.
+    StepWarps(&'static str),
 }
 
 impl Call<'_> {
@@ -121,6 +123,7 @@ impl Call<'_> {
             Call::GroupLaunch(cards) => M::group_launch(cards, kernel, lent),
             Call::GroupStep => M::group_step(kernel, lent),
             Call::GroupRun(budget) => M::group_run(kernel, budget, lent),
+            Call::StepWarps(_) => M::step_warps(kernel, lent),
         }
     }
 
@@ -144,6 +147,7 @@ impl Call<'_> {
             Call::GroupLaunch(_) => "group launch",
             Call::GroupStep => "group step",
             Call::GroupRun(_) => "group run",
+            Call::StepWarps(name) => name,
         }
     }
 }

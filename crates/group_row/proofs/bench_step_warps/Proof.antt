@@ -1,4 +1,4 @@
--- `group_row::step_warps`: a walk of its MIR, by hand. The run is lent to `gather` and to `scatter` and comes back; the other runs go on to the covered `step`, at their own lifetimes.
+-- `group_row::bench_step_warps`: a walk of its MIR, by hand. The run is lent to `gather` and to `scatter` and comes back; the other runs go on to the covered `step`, at their own lifetimes.
 -- Assumes nothing.
 use mathlib.Core.Path.{_≡_, refl, sym, _∙_, ap, subst}
 use Prim.Native.Nat.{ℕ, _<_, _^_}
@@ -70,11 +70,11 @@ use Rattle.group_row.proofs.step as step
 use Rattle.group_row.proofs.step.Symbol as step-def
 use Rattle.group_row.proofs.step.Symbol.{name as #step}
 use Rattle.group_row.proofs.step.Met as step-thm
-use Rattle.group_row.proofs.step_warps.Key.{name as #step-warps}
-use Rattle.group_row.proofs.step_warps as step-warps
-use Rattle.group_row.proofs.step_warps.Statement as stated
-use Rattle.group_row.proofs.step_warps.Code as code
-use Rattle.group_row.proofs.step_warps.Code.Mir as code-mir
+use Rattle.group_row.proofs.bench_step_warps.Key.{name as #step-warps}
+use Rattle.group_row.proofs.bench_step_warps as step-warps
+use Rattle.group_row.proofs.bench_step_warps.Statement as stated
+use Rattle.group_row.proofs.bench_step_warps.Code as code
+use Rattle.group_row.proofs.bench_step_warps.Code.Mir as code-mir
 
 -- the warps are still had at exit; the numbers are given up for good, to the callee
 abbrev stayed : Stays (step-warps.ended .signature .params) (step-warps.ended .kept)
@@ -306,9 +306,9 @@ step-warps-meets 𝓤 H A W mem′ run 𝓣 known =
     walk-meets 𝓤 H A step-warps.ended stayed W (goes-slice 𝓤 H A W 5 0 tt (plain (λ _. T.the-row)), (goes-none 𝓤 H A W 5 (λ _. u32) yes (λ κs x f. refl), (goes-none-slice 𝓤 H A W 5 (1 ∷ []) tt (plain (λ _. u32)) yes, (goes-gave-slice 𝓤 H A W 5 2 tt (plain (λ _. u32)), (goes-gave-slice 𝓤 H A W 5 3 tt (plain (λ _. u8)), (goes-gave-slice 𝓤 H A W 5 4 tt (plain (λ _. u8)), tt)))))) (step-warps.clauses 𝓤 H A mem′ run)
     (WpFn 𝓤 H (𝓣 .C) (𝓣 .Λ) code.function) (WpFn-mono 𝓤 H (W .laws) 𝓣 code.function) (step-warps-walks 𝓤 H A W mem′ run (𝓣 .C) (𝓣 .Λ) (fmOf 𝓤 H (W .laws) 𝓣) known)
 
-pub step-warps-spec : {M : Type 1} → stated.statement M
+pub bench-step-warps-spec : {M : Type 1} → stated.statement M
 unfolding code.routine tablesOf
-step-warps-spec 𝓤 H 𝓜 𝓖 𝓡 =
+bench-step-warps-spec 𝓤 H 𝓜 𝓖 𝓡 =
     entered 𝓤 H (tripleOf 𝓤 H (𝓖 .A) step-warps.signature (step-warps.spec 𝓤 H (𝓖 .A) (𝓜 .mem) (𝓡 .run)))
     (tables 𝓤 H 𝓜 𝓡 code.env .C) (tables 𝓤 H 𝓜 𝓡 code.env .Λ) #step-warps code.function (code.unfolded 𝓤 H 𝓜 𝓡)
     (step-warps-meets 𝓤 H (𝓖 .A) (givenOf 𝓤 H 𝓜 𝓖) (𝓜 .mem) (𝓡 .run) (tablesOf 𝓤 H 𝓜 (tables 𝓤 H 𝓜 𝓡 code.env)) (record {
