@@ -8,7 +8,7 @@ use Rattle.warp.specs.Warp.{Answered, answered}
 use Rattle.definition.specs.State.{state, Outcome, outcome}
 use Rattle.definition.specs.Step.{stepOf}
 use Rattle.definition.specs.Calls.{Ran, ran, launchOf, runOf, releaseOf}
-use Rattle.machine.specs.declared.Left.{Left}
+use Rattle.launch_release.specs.declared.Left.{Left}
 use Rattle.machine.specs.declared.RunLeft.{RunLeft}
 use Rattle.promises.specs.Determined.{DeterminedWhole}
 

@@ -43,7 +43,7 @@ pub extern "C" fn bench_launch(
         return answer::SIZE;
     }
     let l = read.launch;
-    let left = machine::launch(l, kernel, vector, bytes);
+    let left = launch_release::launch(l, kernel, vector, bytes);
     let b = left.answer;
     let w = left.warp;
     saved::save(w, state);
@@ -132,7 +132,7 @@ pub extern "C" fn bench_release(state: &mut [u32]) -> u32
         return code;
     }
     let w = read.warp;
-    let freed = machine::release(w);
+    let freed = launch_release::release(w);
     let c = freed.answer;
     let u = freed.warp;
     saved::save(u, state);

@@ -1,7 +1,5 @@
 // A word's kind. Where two codes tell rows apart they are matched as one number, an arm a number: the compiler makes one table of that, and
 // tests after it of an arm with a range (docs/SPEED.md).
-mod vector;
-
 ghost use mathlib.Core.Path.{_≡_};
 ghost use mathlib.Core.Bool.{false};
 ghost use mathlib.Core.List.{[], _∷_};
@@ -9,19 +7,12 @@ ghost use Prim.Native.Nat.{ℕ, _+_, _*_, _%_, _^_, _<_};
 ghost use Rattle.answer.specs.Rows.{oneOf};
 ghost use Rattle.isa.specs.declared.Instr.{Instr};
 ghost use Rattle.isa.specs.Fields.{fieldsOf, immI};
-ghost use Rattle.isa.specs.Table.{wordAt, fixed as fixedTo};
+ghost use Rattle.isa.specs.Table.{wordAt};
 ghost use Rattle.isa.specs.Scalar.{jalrWord, loadWord, storeWord, shifts, opWord, fenceWord};
 ghost use Rattle.isa.specs.Ventus.{joinWord, endPrgWord, barrierWord, stopWord, prefixWord, warpWord, privateWord};
 ghost use Rattle.isa.specs.Decode.{decodeOf};
 ghost use Rattle.isa.specs.Kinds.{instrOf};
 use isa::kinds;
-
-// The kind, where a fixed field has the value that it must have.
-fn fixed(field: u32, value: u32, kind: u32) -> u32
-    ensures { λ r. ⌜ ((w : ℕ) → instrOf r w ≡ fixedTo field value (instrOf kind w)) ⌝ }
-{
-    if field == value { kind } else { kinds::NONE }
-}
 
 // Where a code's row with the word's funct3 stands: eight rows a code.
 fn index(code: u32, w: u32) -> u32
@@ -35,7 +26,7 @@ fn jalr(w: u32) -> u32
     ensures { λ r. ⌜ instrOf r w ≡ jalrWord (fieldsOf w) ⌝ }
 {
     let funct3 = w / 4096 % 8;
-    fixed(funct3, 0b000, kinds::JALR)
+    vector_decoder::fixed(funct3, 0b000, kinds::JALR)
 }
 
 fn load(w: u32) -> u32
@@ -103,28 +94,28 @@ fn fence(w: u32) -> u32
     ensures { λ r. ⌜ instrOf r w ≡ fenceWord (fieldsOf w) ⌝ }
 {
     let funct3 = w / 4096 % 8;
-    fixed(funct3, 0b000, kinds::FENCE)
+    vector_decoder::fixed(funct3, 0b000, kinds::FENCE)
 }
 
 fn join(w: u32) -> u32
     ensures { λ r. ⌜ instrOf r w ≡ joinWord (fieldsOf w) ⌝ }
 {
     let rest = w / 33554432 % 128 + w / 1048576 % 32 + w / 32768 % 32 + w / 128 % 32;
-    fixed(rest, 0, kinds::JOIN)
+    vector_decoder::fixed(rest, 0, kinds::JOIN)
 }
 
 fn end_prg(w: u32) -> u32
     ensures { λ r. ⌜ instrOf r w ≡ endPrgWord (fieldsOf w) ⌝ }
 {
     let rest = w / 1048576 % 32 + w / 32768 % 32 + w / 128 % 32;
-    fixed(rest, 0, kinds::ENDPRG)
+    vector_decoder::fixed(rest, 0, kinds::ENDPRG)
 }
 
 fn barrier(w: u32) -> u32
     ensures { λ r. ⌜ instrOf r w ≡ barrierWord (fieldsOf w) ⌝ }
 {
     let rest = w / 1048576 % 32 + w / 128 % 32;
-    fixed(rest, 0, kinds::BARRIER)
+    vector_decoder::fixed(rest, 0, kinds::BARRIER)
 }
 
 fn stop(w: u32) -> u32
@@ -143,7 +134,7 @@ fn prefix(w: u32, kind: u32) -> u32
     ensures { λ r. ⌜ ((make : ℕ → Instr) → instrOf kind w ≡ make (immI (fieldsOf w)) → instrOf r w ≡ prefixWord make (fieldsOf w)) ⌝ }
 {
     let rest = w / 32768 % 32 + w / 128 % 32;
-    fixed(rest, 0, kind)
+    vector_decoder::fixed(rest, 0, kind)
 }
 
 fn warp_word(w: u32) -> u32
@@ -200,14 +191,14 @@ fn lane_row(w: u32) -> u32
 {
     let opcode = w % 128;
     match index(opcode, w) {
-        0b1010111_000 => vector::vector(0b000, w),
-        0b1010111_001 => vector::vector(0b001, w),
-        0b1010111_010 => vector::vector(0b010, w),
-        0b1010111_011 => vector::vector(0b011, w),
-        0b1010111_100 => vector::vector(0b100, w),
-        0b1010111_101 => vector::vector(0b101, w),
-        0b1010111_110 => vector::vector(0b110, w),
-        0b1010111_111 => vector::vector(0b111, w),
+        0b1010111_000 => vector_decoder::vector(0b000, w),
+        0b1010111_001 => vector_decoder::vector(0b001, w),
+        0b1010111_010 => vector_decoder::vector(0b010, w),
+        0b1010111_011 => vector_decoder::vector(0b011, w),
+        0b1010111_100 => vector_decoder::vector(0b100, w),
+        0b1010111_101 => vector_decoder::vector(0b101, w),
+        0b1010111_110 => vector_decoder::vector(0b110, w),
+        0b1010111_111 => vector_decoder::vector(0b111, w),
         0b1011011_000 => kinds::VBRANCH,
         0b1011011_001 => kinds::VBRANCH,
         0b1011011_010 => join(w),

@@ -1,59 +1,15 @@
-// A run on the lent words: the tests of the sizes and of the words, and the one loop over steps.
+// A run on the lent words: the tests, and the one loop over steps.
 use layout::FIXED;
 use layout::FLAT;
 use layout::MOVING;
 use layout::SCALARS;
-use warp::Fixed;
 ghost use mathlib.Core.Path.{_≡_};
 ghost use lib.ListN.{length};
 ghost use Rattle.layout.specs.Words.{movingCount, flatCount};
-ghost use Rattle.memory.specs.Memories.{contents, memoriesOkOf};
-ghost use Rattle.definition.specs.State.{memoriesIn};
-ghost use Rattle.definition.specs.Refuse.{runsOkOf};
+ghost use Rattle.memory.specs.Memories.{contents};
 ghost use Rattle.handlers.specs.Handles.{lists};
 ghost use Rattle.exec.specs.Ready.{Started};
 ghost use Rattle.drive.specs.Drives.{Drives, RunsWords};
-
-// The most kernel words and data bytes that may be lent, the words of a vector file, and what a base plus a length stays within.
-const KERNEL_LIMIT: usize = 16384;
-
-const DATA_LIMIT: usize = 65536;
-
-const FILE_WORDS: usize = 8192;
-
-const ADDRESSES: usize = 0x1_0000_0000;
-
-// The sizes of the data memory and of the local memory, their bases plus lengths, and that they don't overlap.
-fn memories_ok(f: Fixed, bytes: &[u8], local: &[u8]) -> bool
-    ensures { λ r. ⌜ r ≡ memoriesOkOf (memoriesIn f (contents (now (bytes .entry)) (now (local .entry)))) ⌝ }
-{
-    let size = bytes.len();
-    if DATA_LIMIT < size {
-        return false;
-    }
-    let near = local.len();
-    if DATA_LIMIT < near {
-        return false;
-    }
-    let d = f.dataBase as usize;
-    let l = f.lds as usize;
-    (d + size <= ADDRESSES)
-        & ((l + near <= ADDRESSES)
-            & !(((d < d + size) & (l < l + near)) & ((d < l + near) & (l < d + size))))
-}
-
-// The sizes of the lent runs, and the bases plus lengths.
-pub fn runs_ok(f: Fixed, kernel: &[u32], vector: &[u32], bytes: &[u8], local: &[u8]) -> bool
-    ensures { λ r. ⌜ r ≡ runsOkOf f (now (kernel .entry)) (now (vector .entry)) (contents (now (bytes .entry)) (now (local .entry))) ⌝ }
-{
-    let words = kernel.len();
-    if KERNEL_LIMIT < words {
-        return false;
-    }
-    (1 <= words)
-        & ((f.codeBase as usize + 4 * words <= ADDRESSES)
-            & ((vector.len() == FILE_WORDS) & memories_ok(f, bytes, local)))
-}
 
 // How a loop over steps ended: the last step's number, and how many were taken.
 pub struct Drove {
@@ -110,7 +66,7 @@ pub fn run_words(
     requires { ⌜ (length (now h) ≡ movingCount) × (length (now s) ≡ flatCount) ⌝ }
     ensures { λ r. ⌜ RunsWords (now (kernel .entry)) n (r .code) (r .steps) (lists (now (g .entry)) (now (h .entry)) (now (x .entry)) (now (s .entry)) (now (vector .entry)) (contents (now (bytes .entry)) (now (local .entry)))) (lists (now (g .entry)) (now (h .exit)) (now (x .exit)) (now (s .exit)) (now (vector .exit)) (contents (now (bytes .exit)) (now (local .exit)))) ⌝ }
 {
-    if !runs_ok(layout::fixed_in(g), kernel, vector, bytes, local) {
+    if !sizes::runs_ok(layout::fixed_in(g), kernel, vector, bytes, local) {
         return Drove {
             code: answer::SIZE,
             steps: 0,

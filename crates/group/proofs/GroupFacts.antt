@@ -17,6 +17,7 @@ use Rattle.warp.specs.Warp.{splitCount, aligned}
 use Rattle.warp.specs.WellFormed.{fixedOkOf, chainOf, allZero, prefixOkOf, wellFormedOf}
 use Rattle.definition.specs.Refuse.{runsOkOf}
 use Rattle.group.specs.Group.{Group, countOf, warpAt, fixedsOf, fileStart, fileAt, someRuns, allEnded}
+use Rattle.group.specs.Places.{InPlace}
 use Rattle.group.specs.GroupRefuse.{warpsLimit, allBelow, fixedAt, sizesOkOf, inPlaceOf, placedOf, goesOnOf, formedOf}
 use Rattle.group.proofs.GroupLaws.{by-test, below-at, below-all, fixed-at}
 
@@ -82,15 +83,6 @@ module _ (m : Group) where
 
   pub goes-on : m .turn < countOf m → someRuns (m .warps) ≡ true → goesOnOf m ≡ true
   goes-on t r = by-test (allEnded (m .warps)) (λ e. rw e) (λ e. rw (e, lt-ltb _ _ t, r))
-
--- warp i is in its place: WID and NUMW by the group, the rest as warp 0 has it
-pub record InPlace (n : ℕ) (zeroth : Fixed) (i : ℕ) (f : Fixed) : Type 0 where
-  pub wid : f .wid ≡ i
-  pub numw : f .numw ≡ n
-  pub numt : f .numt ≡ zeroth .numt
-  pub codeBase : f .codeBase ≡ zeroth .codeBase
-  pub dataBase : f .dataBase ≡ zeroth .dataBase
-  pub lds : f .lds ≡ zeroth .lds
 
 pub in-place : (n : ℕ) (z : Fixed) (i : ℕ) (f : Fixed) → inPlaceOf n z i f ≡ true → InPlace n z i f
 in-place n z i f e =

@@ -1,3 +1,4 @@
 pub mod Group
 pub mod GroupRefuse
 pub mod GroupCalls
+pub mod Places

@@ -1,6 +1,6 @@
 -- The promises of a group's calls.
 use Prim.Native.Nat.{ℕ, _%_}
-use mathlib.Core.Path.{_≡_, refl, sym, ap, _∙_}
+use mathlib.Core.Path.{_≡_, refl, sym, ap, _∙_, subst}
 use mathlib.Core.Bool.{Bool, true, false, not, cond, true≢false}
 use mathlib.Core.List.{List, [], _∷_}
 use lib.Dec.{eqb}
@@ -8,16 +8,23 @@ use lib.ListN.{length}
 use borrow.Author.Tests.{eq-eqb, ne-eqb, eqb-true}
 use Rattle.answer.specs.Rows.{Row, _⇒_, first, oneOf}
 use Rattle.memory.specs.Memories.{Contents}
-use Rattle.group.specs.Group.{fixedsOf}
+use Rattle.answer.proofs.Rows.{passed}
+use Rattle.group.specs.Group.{Group, fixedsOf}
 use Rattle.group.specs.GroupRefuse.{sizesOkOf}
+use Rattle.group.specs.GroupCalls.{groupStepOf, GroupRan, groupRunOf}
 use Rattle.group.proofs.GroupLaws.{by-test, by-equal}
 use Rattle.card.specs.Card.{cardSize}
 use Rattle.group_launch.specs.GroupLaunchCall.{cardsIn, noneIs, launchesOf, isGroupState, cardsLaunchOf, groupLaunchNumber, groupLaunchCallOf}
-use Rattle.group_state.specs.GroupState.{isGroup, groupIn, allSoundIn, groupWordsTests, groupStepCallOf, groupRunCallOf}
+use Rattle.group_words.specs.StateWords.{stateWordsOf}
+use Rattle.group_state.specs.GroupState.{isGroup, groupIn, allSoundIn, groupCalled, groupWordsTests, groupStepCallOf, groupRunCallOf}
+use Rattle.group_state.proofs.Calls.{state-back}
+use Rattle.promises.proofs.Refusals.{is-zero}
 use Rattle.promises.proofs.Determined.{determined-whole}
 use Rattle.group_promises.specs.Refusals.{groupNumbers}
-use Rattle.group_promises.proofs.Refusals.{group-answers, group-run-answers, group-launch-refusals}
-use Rattle.group_call_promises.specs.GroupCalls.{GroupLaunchCallAnswers, GroupStepCallAnswers, GroupRunCallAnswers, GroupLaunchCallKeeps, GroupStepCallRoom, GroupRunCallRoom, GroupLaunchCallDetermined, GroupStepCallDetermined, GroupRunCallDetermined, whole}
+use Rattle.group_promises.specs.Runs.{groupTested, GroupSteps, start}
+use Rattle.group_promises.proofs.Refusals.{group-answers, group-run-answers, group-keeps, group-launch-refusals}
+use Rattle.group_promises.proofs.Runs.{group-run-iterates, group-run-tests, group-steps-fixed}
+use Rattle.group_call_promises.specs.GroupCalls.{GroupLaunchCallAnswers, GroupStepCallAnswers, GroupRunCallAnswers, GroupLaunchCallKeeps, AsLent, GroupStepCallKeeps, GroupRunCallKeeps, GroupStepCallRoom, GroupRunCallRoom, GroupLaunchCallDetermined, GroupStepCallDetermined, GroupRunCallDetermined, whole}
 
 -- ---- a step and a run
 
@@ -77,6 +84,43 @@ step-room s k v c t z = rw (ne-eqb _ _ z)
 pub run-room : GroupRunCallRoom
 unfolding groupRunCallOf
 run-room s k b v c t z = rw (ne-eqb _ _ z)
+
+-- ---- what a refusal leaves
+
+-- a run of no steps leaves its group
+still : (k : List ℕ) (b : ℕ) (m : Group) → groupRunOf k b m .steps ≡ 0 → groupRunOf k b m .ends .left ≡ m
+still k b m e =
+    is-zero (groupTested k m)
+    (λ z. group-steps-fixed k 0 m _ m (subst (λ (t : ℕ). GroupSteps k t m (groupRunOf k b m .ends .left)) e (group-run-iterates k b m z .taken)) start)
+    (λ z. ap (λ (r : GroupRan). r .ends .left) (group-run-tests k b m z))
+
+module _ (s k v : List ℕ) (c : Contents) where
+  abbrev sizesOk : Bool
+  sizesOk = sizesOkOf k (fixedsOf (groupIn s v c)) v c
+
+  -- words that pass all tests, and the group that they stand for
+  as-lent : (room : Bool) → first (1 ⇒ not room ∷ groupWordsTests s k v c) ≡ 0 → (m : Group) → m ≡ groupIn s v c → (x : ℕ) (t : List ℕ)
+      → AsLent s v c (groupCalled x (stateWordsOf m) (m .vector) (m .bytes) t)
+  as-lent room z m e x t =
+      let g : isGroup s ≡ true = passed (1 ⇒ not room ∷ []) (1 ⇒ not sizesOk ∷ 2 ⇒ not (allSoundIn s) ∷ []) 1 (isGroup s) refl z in
+      let q : allSoundIn s ≡ true = passed (1 ⇒ not room ∷ 1 ⇒ not (isGroup s) ∷ 1 ⇒ not sizesOk ∷ []) [] 2 (allSoundIn s) refl z in
+      record { state = ap stateWordsOf e ∙ state-back s g v c q; vector = ap (λ (u : Group). u .vector) e; bytes = ap (λ (u : Group). u .bytes) e }
+
+pub step-keeps : GroupStepCallKeeps
+unfolding groupStepCallOf
+step-keeps s k v c t y = go (eqb (first (1 ⇒ not (eqb (length t) 1) ∷ groupWordsTests s k v c)) 0) refl
+  where
+    go : (z : Bool) → eqb (first (1 ⇒ not (eqb (length t) 1) ∷ groupWordsTests s k v c)) 0 ≡ z → AsLent s v c (groupStepCallOf s k v c t)
+    go true z = rw z (as-lent s k v c (eqb (length t) 1) (eqb-true _ _ z) (groupStepOf k (groupIn s v c) .left) (group-keeps k (groupIn s v c) (λ q. y (rw z q))) _ _)
+    go false z = rw z (record { state = refl; vector = refl; bytes = refl })
+
+pub run-keeps : GroupRunCallKeeps
+unfolding groupRunCallOf
+run-keeps s k b v c t l e = go (eqb (first (1 ⇒ not (eqb (length t) 2) ∷ groupWordsTests s k v c)) 0) refl
+  where
+    go : (z : Bool) → eqb (first (1 ⇒ not (eqb (length t) 2) ∷ groupWordsTests s k v c)) 0 ≡ z → AsLent s v c (groupRunCallOf s k b v c t)
+    go true z = rw z (as-lent s k v c (eqb (length t) 2) (eqb-true _ _ z) (groupRunOf k b (groupIn s v c) .ends .left) (still k b (groupIn s v c) (rw (z, eq-eqb _ _ l) at e)) _ _)
+    go false z = rw z (record { state = refl; vector = refl; bytes = refl })
 
 -- ---- a launch
 

@@ -3,7 +3,7 @@ use Prim.Native.Nat.{ℕ}
 use mathlib.Core.Path.{_≡_}
 use mathlib.Core.Bool.{true}
 use mathlib.Core.List.{List, [], _∷_}
-use lib.ListN.{length}
+use lib.ListN.{length, getD}
 use Rattle.answer.specs.Rows.{oneOf}
 use Rattle.memory.specs.Memories.{Contents}
 use Rattle.group_launch.specs.GroupLaunchCall.{cardsIn, GroupLaunchCalled, groupLaunchCalled, groupBlankOf, groupLaunchCallOf}
@@ -30,6 +30,21 @@ abbrev pub GroupLaunchCallKeeps : Type 0
 GroupLaunchCallKeeps =
     (cs k v : List ℕ) (c : Contents) (s : List ℕ) → (groupLaunchCallOf cs k v c s .number ≡ 0 → ⊥)
     → groupLaunchCallOf cs k v c s ≡ groupLaunchCalled (groupLaunchCallOf cs k v c s .number) (groupBlankOf (cardsIn cs) s) v
+
+-- the state, the vector files and the memories are as they were lent
+pub record AsLent (s v : List ℕ) (c : Contents) (r : GroupCalled) : Type 0 where
+  pub state : r .state ≡ s
+  pub vector : r .vector ≡ v
+  pub bytes : r .bytes ≡ c
+
+-- A refused step leaves all as lent but the word for the WID, whatever the words are; and so does a run that takes no step, but its two words.
+abbrev pub GroupStepCallKeeps : Type 0
+GroupStepCallKeeps = (s k v : List ℕ) (c : Contents) (t : List ℕ) → (groupStepCallOf s k v c t .number ≡ 0 → ⊥) → AsLent s v c (groupStepCallOf s k v c t)
+
+abbrev pub GroupRunCallKeeps : Type 0
+GroupRunCallKeeps =
+    (s k : List ℕ) (b : ℕ) (v : List ℕ) (c : Contents) (t : List ℕ) → length t ≡ 2 → getD (groupRunCallOf s k b v c t .told) 0 0 ≡ 0
+    → AsLent s v c (groupRunCallOf s k b v c t)
 
 -- A call whose answer's words have no room leaves all as lent, these too, and answers 1.
 abbrev pub GroupStepCallRoom : Type 0

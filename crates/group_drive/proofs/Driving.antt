@@ -9,7 +9,8 @@ use Rattle.memory.specs.Memories.{Region, Contents, bytesAt}
 use Rattle.group.specs.Group.{nextOf}
 use Rattle.group.specs.GroupCalls.{GroupOutcome, groupOutcome, groupStepOf, groupRan, groupStepsOf}
 use Rattle.group.proofs.GroupCases.{group-steps-end, group-steps-on, group-steps-stop}
-use Rattle.group_drive.specs.Row.{Row, groupIn, Ready, turnAfter, Turns, GroupDrives}
+use Rattle.group_words.specs.Row.{Row, groupIn, Ready}
+use Rattle.group_drive.specs.GroupDrives.{turnAfter, Turns, GroupDrives}
 
 -- u of b steps are taken, from the words a to the words e; the turn is at
 pub record Going (k : List ℕ) (n t b : ℕ) (a : Row) (v : List ℕ) (d : Contents) (e : Row) (f : List ℕ) (g : Contents) (at u : ℕ) : Type 0 where

@@ -30,8 +30,9 @@ use Rattle.group.proofs.GroupLaws.{by-test, by-equal, refute, not-ended, runs-i
 use Rattle.group.proofs.GroupFacts.{GroupFit, group-fit, fit-sizes, fit-formed, going}
 use Rattle.group.proofs.GroupCases.{group-step-ended, group-step-taken, group-step-refused}
 use Rattle.group.proofs.GroupKept.{AllSplits, fit-kept}
-use Rattle.group_drive.specs.Row.{Row, row, wordsAt, warpIn, warpsIn, groupIn, listsAt, Picks, Moving, Moves, Warps, Ready, turnAfter, stoppedBy, Turns}
-use Rattle.group_drive.proofs.Tabulate.{tab-length, tab-at, tab-set}
+use Rattle.group_words.specs.Row.{Row, row, wordsAt, warpIn, warpsIn, groupIn, Picks, Moving, Moves, Warps, Ready}
+use Rattle.group_drive.specs.GroupDrives.{listsAt, turnAfter, stoppedBy, Turns}
+use Rattle.group_words.proofs.Tabulate.{tab-length, tab-at, tab-set}
 
 -- ---- lists
 

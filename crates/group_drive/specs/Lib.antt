@@ -1,1 +1,1 @@
-pub mod Row
+pub mod GroupDrives

@@ -13,9 +13,9 @@ use Rattle.card.specs.Card.{headOkAt, launchAt, readCardOf}
 use Rattle.card.proofs.Cases.{card}
 use Rattle.group.specs.GroupRefuse.{allBelow, sizesOkOf, placedOf}
 use Rattle.group.specs.GroupCalls.{groupLaunchOf}
-use Rattle.group_drive.specs.Row.{tabulate}
+use Rattle.group_words.specs.Row.{tabulate}
 use Rattle.group_launch.specs.GroupLaunchCall.{groupLaunchCalled, groupLaunchNumber, groupLaunchCallOf}
-use Rattle.group_state.specs.GroupState.{joined}
+use Rattle.group_words.specs.StateWords.{joined}
 
 module _ (k v : List ℕ) (c : Contents) where
   -- no card, with a state that has only a turn

@@ -29,10 +29,11 @@ use Rattle.group.specs.GroupRefuse.{warpsLimit, allBelow, sizesOkOf, placedOf}
 use Rattle.group.specs.GroupCalls.{GroupOutcome, groupLaunchOf}
 use Rattle.group.proofs.GroupLaws.{by-test, by-equal, below-at, below-all}
 use Rattle.group.proofs.GroupFacts.{GroupSizes, group-sizes}
-use Rattle.group_drive.specs.Row.{wordsAt, tabulate, fixedsIn}
-use Rattle.group_drive.proofs.Tabulate.{tab-length, tab-at, tab-same, tab-map}
+use Rattle.group_words.specs.Row.{wordsAt, tabulate, fixedsIn}
+use Rattle.group_words.proofs.Tabulate.{tab-length, tab-at, tab-same, tab-map}
 use Rattle.group_launch.specs.GroupLaunchCall.{cardsIn, cardAt, readingAt, noneIs, launchesOf, groupWords, isGroupState, groupLaunchCalled, cardsLaunchOf, groupLaunchNumber, groupBlankOf, groupLaunchCallOf}
-use Rattle.group_state.specs.GroupState.{joined, stateWordsOf}
+use Rattle.group_words.specs.StateWords.{joined, stateWordsOf}
+use Rattle.group_words.proofs.StateWords.{joined-same}
 
 -- ---- a state of n warps
 
@@ -63,11 +64,6 @@ put-is r cs i w a p p' er ew l es =
 pub joined-none : (s : List ℕ) (f : ℕ → List ℕ) → 0 < length s → take 1 (set s 0 0) ≡ 0 ∷ joined 0 f
 unfolding joined
 joined-none s f h = take-suc-set s 0 0 h
-
-pub joined-same : (n : ℕ) (f g : ℕ → List ℕ) → ((i : ℕ) → i < n → f i ≡ g i) → joined n f ≡ joined n g
-unfolding joined
-joined-same zero f g h = refl
-joined-same (suc n) f g h = rw (joined-same n f g (λ i l. h i (omega arith)), h n (omega arith))
 
 module _ (s : List ℕ) where
   -- the part of 241 words from a on

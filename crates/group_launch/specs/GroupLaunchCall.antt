@@ -11,8 +11,8 @@ use Rattle.layout.specs.Words.{stateWords}
 use Rattle.card.specs.Card.{cardSize, Reading, readCardOf}
 use Rattle.group.specs.GroupRefuse.{allBelow}
 use Rattle.group.specs.GroupCalls.{GroupOutcome, groupLaunchOf}
-use Rattle.group_drive.specs.Row.{tabulate}
-use Rattle.group_state.specs.GroupState.{stateWordsOf}
+use Rattle.group_words.specs.Row.{tabulate}
+use Rattle.group_words.specs.StateWords.{stateWordsOf}
 
 -- ---- cards
 

@@ -1,6 +1,6 @@
 // A group launched from its cards.
 use card::ReadCard;
-use group_drive::WARPS;
+use group_words::WARPS;
 use layout::FIXED;
 use layout::STATE_WORDS;
 ghost use mathlib.Core.Path.{_≡_};
@@ -13,9 +13,9 @@ ghost use Rattle.memory.specs.Memories.{contents};
 ghost use Rattle.definition.specs.Calls.{launchedOf};
 ghost use Rattle.card.specs.Card.{cardSize, readingOf};
 ghost use Rattle.group.specs.GroupRefuse.{warpsLimit, sizesOkOf, placedOf};
-ghost use Rattle.group_drive.specs.Row.{tabulate, fixedsIn};
+ghost use Rattle.group_words.specs.Row.{tabulate, fixedsIn};
 ghost use Rattle.group_launch.specs.GroupLaunchCall.{readingAt, noneIs, groupWords, isGroupState, groupBlankOf, groupLaunchCalled, groupLaunchNumber, groupLaunchCallOf};
-ghost use Rattle.group_state.specs.GroupState.{joined};
+ghost use Rattle.group_words.specs.StateWords.{joined};
 
 // The bytes of a card.
 const CARD: usize = 50;
@@ -87,8 +87,8 @@ fn group_ok(
 {
     let mut gs = [[0u32; FIXED]; WARPS];
     fixeds(cards, &mut gs, n);
-    let sizes = group_drive::sizes_ok(&gs, kernel, vector, bytes, local, n);
-    let place = group_drive::placed(&gs, n);
+    let sizes = group_words::sizes_ok(&gs, kernel, vector, bytes, local, n);
+    let place = group_words::placed(&gs, n);
     sizes & place
 }
 
@@ -164,7 +164,7 @@ fn put_warp(cards: &[u8], i: usize, part: &mut [u32])
 {
     let read = read_at(cards, i);
     let l = read.launch;
-    let w = machine::launched(l);
+    let w = launch_release::launched(l);
     saved::save(w, part);
 }
 

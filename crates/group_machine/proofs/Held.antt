@@ -22,7 +22,8 @@ use Rattle.group.specs.GroupCalls.{GroupOutcome, groupOutcome, groupStepOf, Gro
 use Rattle.group.proofs.GroupLaws.{by-test, by-equal, refute, below-all}
 use Rattle.group.proofs.GroupFacts.{group-formed}
 use Rattle.group.proofs.GroupCases.{by-group-step, group-turn-end, group-turn-on, group-turn-off, group-run-size, group-run-malformed, group-run-steps, group-run-one}
-use Rattle.group_drive.specs.Row.{Row, row, groupIn, warpsIn, fixedsIn, allSound, groupWordsRunOf, GroupRuns}
+use Rattle.group_words.specs.Row.{Row, row, groupIn, warpsIn, fixedsIn, allSound}
+use Rattle.group_drive.specs.GroupDrives.{groupWordsRunOf, GroupRuns}
 use Rattle.group_machine.specs.declared.Group.{Group}
 use Rattle.group_machine.specs.Held.{held, heldStepOf, heldRunOf, Kept, noWarp, shallowAt, Fixeds, Apart, Together}
 use Rattle.group_machine.proofs.Taking.{taken-count, taken-at, fixeds-are, warps-are, all-sound, put-are, rest-are}

@@ -16,9 +16,9 @@ use Rattle.layout.proofs.Words.{apart, apart-sound, flat-long}
 use Rattle.group.specs.Group.{group, fixedsOf}
 use Rattle.group.specs.GroupRefuse.{warpsLimit, allBelow}
 use Rattle.group.proofs.GroupLaws.{by-equal, getD-map-in, below-at}
-use Rattle.group_drive.specs.Row.{Row, row, wordsAt, warpIn, warpsIn, fixedsIn, allSound, Rooms}
-use Rattle.group_drive.proofs.Tabulate.{tab-is}
-use Rattle.group_drive.proofs.Running.{at-sound}
+use Rattle.group_words.specs.Row.{Row, row, wordsAt, warpIn, warpsIn, fixedsIn, allSound, Rooms}
+use Rattle.group_words.proofs.Tabulate.{tab-is}
+use Rattle.group_words.proofs.Sound.{at-sound}
 use Rattle.group_machine.specs.Held.{noWarp, shallowAt, Fixeds, ApartAt, Apart, Together}
 
 -- ---- one warp more

@@ -14,7 +14,7 @@ use Rattle.group.specs.Group.{group}
 use Rattle.group.specs.Group as G
 use Rattle.group.specs.GroupRefuse.{warpsLimit}
 use Rattle.group.specs.GroupCalls.{GroupOutcome, groupOutcome, groupStepOf, GroupRan, groupRan, groupRunOf}
-use Rattle.group_drive.specs.Row.{Row, wordsAt, warpIn}
+use Rattle.group_words.specs.Row.{Row, wordsAt, warpIn}
 use Rattle.group_machine.specs.declared.Group.{Group}
 
 -- the definition's group that g stands for, with the lent runs

@@ -1,7 +1,7 @@
 // A whole group by value: its step and its run. Each answers for all inputs, and asks nothing of its caller.
 use answer::Answer;
 use answer::Refusal;
-use group_drive::WARPS;
+use group_words::WARPS;
 use layout::FIXED;
 use layout::FLAT;
 use layout::MOVING;
@@ -19,7 +19,7 @@ ghost use Rattle.layout.specs.Words.{splitsWords};
 ghost use Rattle.definition.specs.Calls.{budgetLimit};
 ghost use Rattle.group.specs.GroupRefuse.{warpsLimit, allBelow};
 ghost use Rattle.group.specs.GroupCalls.{groupOutcome, groupRan};
-ghost use Rattle.group_drive.specs.Row.{row};
+ghost use Rattle.group_words.specs.Row.{row};
 ghost use Rattle.group_machine.specs.Held.{held, heldStepOf, heldRunOf, Kept, shallowAt, Fixeds, Apart, Together};
 
 // The first `count` warps are the group's.
@@ -161,7 +161,7 @@ pub fn run(
     let g0 = [0u32; FIXED];
     let mut gs = [g0; WARPS];
     fixeds(ws, n, &mut gs);
-    if !group_drive::sizes_ok(&gs, kernel, vector, bytes, local, n) {
+    if !group_words::sizes_ok(&gs, kernel, vector, bytes, local, n) {
         return refused(Refusal::Size, g);
     }
     if !shallow(ws, n) {

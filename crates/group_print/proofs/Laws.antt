@@ -1,9 +1,8 @@
 -- The printout of a group by cases, in the order in which the files are tested.
-use Prim.Native.Nat.{ℕ, zero, suc, _+_, _*_, _/_, _%_, _≤_, _<_}
+use Prim.Native.Nat.{ℕ, _+_, _*_, _/_, _%_, _≤_, _<_}
 use mathlib.Core.Path.{_≡_, refl, sym, ap, _∙_}
 use mathlib.Core.Bool.{Bool, true, false, not, cond}
-use mathlib.Core.List.{List, [], _∷_, _++_}
-use native.Mathlib.Numerals.{add-one}
+use mathlib.Core.List.{List, [], _∷_}
 use native.Mathlib.Omega.{arith}
 use lib.Dec.{eqb, leb}
 use lib.ListN.{length, take, replicate, length-replicate}
@@ -20,19 +19,15 @@ use Rattle.group_launch.specs.GroupLaunchCall.{cardsIn, noneIs, groupWords, Gro
 use Rattle.group_state.specs.GroupState.{GroupCalled, groupRunCallOf}
 use Rattle.launch_files.specs.LaunchFiles.{kernelWordsOf, kernelBytes, dataBytes}
 use Rattle.text.specs.Puts.{Puts}
-use Rattle.group_print.specs.GroupPrint.{codeLine, stopsOf, stoppedLine, warpLine, warpLines, budget, ranLines, launchedLines, groupFilesOk, cardsCode, groupPrintOf, roomNeeded}
-
-pub warps-more : (s : List ℕ) (i : ℕ) → warpLines (i + 1) s ≡ warpLines i s ++ warpLine i s
-warps-more s i = rw add-one
-
-pub puts-length : {o w p : List ℕ} {i j : ℕ} → Puts o i w p j → length p ≡ length o
-puts-length {o} {w} {p} {i} {j} s = ap length (s .text) ∙ length-sets o i w
+use Rattle.lines.specs.Lines.{codeLine}
+use Rattle.lines.specs.GroupLines.{groupRoomNeeded}
+use Rattle.group_print.specs.GroupPrint.{budget, ranLines, launchedLines, groupFilesOk, cardsCode, groupPrintOf}
 
 pub prefix-long : (m n : ℕ) → m ≤ n → m ≡ length (take m (replicate {A = ℕ} n 0))
 prefix-long m n h = sym (length-take-le m (replicate {A = ℕ} n 0) (omega (arith, length-replicate {A = ℕ} n 0, h)))
 
 -- a text at a buffer's start counts the buffer's first bytes
-pub counted : {o w p : List ℕ} {r : ℕ} → Puts o 0 w p r → r ≤ roomNeeded → roomNeeded ≤ length o → Counts r p
+pub counted : {o w p : List ℕ} {r : ℕ} → Puts o 0 w p r → r ≤ groupRoomNeeded → groupRoomNeeded ≤ length o → Counts r p
 counted {o} {w} {p} {r} s a b =
     let n : length p ≡ length o = ap length (s .text) ∙ length-sets o 0 w in
     (omega arith, sym (length-take-le r p (omega arith)))

@@ -1,19 +1,24 @@
 -- Every warp that can run gets its step.
-use Prim.Native.Nat.{ℕ, _+_, _-_, _<_}
+use Prim.Native.Nat.{ℕ, zero, suc, _+_, _-_, _<_}
 use mathlib.Core.Path.{_≡_, refl, sym, _∙_, ap}
-use mathlib.Core.Bool.{true}
+use mathlib.Core.Bool.{true, false}
 use mathlib.Core.List.{List}
+use mathlib.Core.Logic.{_⊎_, inl, inr}
 use native.Mathlib.Omega.{arith}
 use Rattle.warp.specs.declared.Warp.{Warp}
-use Rattle.group.specs.Group.{Group, countOf, warpAt, runs}
+use Rattle.promises.proofs.Refusals.{is-zero}
+use Rattle.group.specs.Group.{Group, countOf, warpAt, runs, allEnded}
 use Rattle.group.specs.GroupCalls.{groupOutcome, groupStepOf}
-use Rattle.group.proofs.GroupLaws.{by-equal, refute, runs-is, Within, within, after-pass}
+use Rattle.group.proofs.GroupLaws.{by-equal, refute, runs-is, not-ended, Within, within, after-pass}
 use Rattle.group.proofs.GroupFacts.{going}
-use Rattle.group.proofs.GroupCases.{group-taken}
 use Rattle.group_promises.specs.Steps.{placeAfter, Picked, Kept, same, released, Stepped}
+use Rattle.group_promises.specs.Reached.{steps}
 use Rattle.group_promises.specs.Runs.{GroupSteps, start, more}
-use Rattle.group_promises.specs.Fair.{Turns, Fair}
-use Rattle.group_promises.proofs.Steps.{ready-fit, nearest, group-step-is}
+use Rattle.group_promises.specs.Fair.{Turns, Stops, Fair}
+use Rattle.group_promises.proofs.Steps.{nearest, group-step-is}
+use Rattle.group_promises.proofs.Refusals.{group-refusals}
+use Rattle.group_promises.proofs.Goes.{Fits, goes-fits}
+use Rattle.group_promises.proofs.Runs.{answered, tested-fit, unrefused}
 
 -- warp i had no step yet: it still runs, so near the turn that it comes within the steps that are left
 record Still (m : Group) (t i : ℕ) (u : Group) : Type 0 where
@@ -26,6 +31,9 @@ record Still (m : Group) (t i : ℕ) (u : Group) : Type 0 where
 data Or (A B : Type 0) : Type 0 where
   had : A → Or A B
   not-yet : B → Or A B
+
+past-three : (c : ℕ) → (c ≡ 0 → ⊥) → (c ≡ 1 → ⊥) → (c ≡ 2 → ⊥) → (c ≡ 3 → ⊥) → 3 < c
+past-three c a b d e = omega arith
 
 -- a warp that runs is kept
 kept-runs : (w u : Warp) → runs w ≡ true → Kept w u → u ≡ w
@@ -54,26 +62,35 @@ module _ (k : List ℕ) (m : Group) (i : ℕ) (h : i < countOf m) where
             short = omega arith;
           })
 
-  -- it had its step, or still waits for it
-  so-far : (t : ℕ) (u : Group) → m .turn < countOf m → runs (warpAt i m) ≡ true → GroupSteps k t m u → Or (Turns k m t i) (Still m t i u)
-  so-far t u b r start =
-      let w : Within (countOf m) (m .turn) i = within (countOf m) (m .turn) i b h in
-      not-yet (record { count = refl; running = r; far = w .far; there = w .there; short = omega arith })
-  so-far t u b r (more {t = n} {u = x} p q) = go (so-far n x b r p)
+  -- n steps are left, and warp i had none yet
+  from : (n t : ℕ) (u : Group) → t + n ≡ countOf m → GroupSteps k t m u → Fits k u → Still m t i u → Turns k m (countOf m) i ⊎ Stops k m (countOf m)
+  from zero t u e p f s = absurd (omega (arith, s .short, e))
+  from (suc n) t u e p f s =
+      is-zero (groupStepOf k u .code)
+      (λ z. let x : Group = groupStepOf k u .left in
+      let q : groupStepOf k u ≡ groupOutcome 0 0 x = answered k u z in
+      go x (onward t u x p s q (group-step-is k u x q)) (λ y. from n (t + 1) x (omega (arith, e)) (more p q) (goes-fits k u x f (steps q)) y))
+      refused
     where
-      go : Or (Turns k m n i) (Still m n i x) → Or (Turns k m (n + 1) i) (Still m (n + 1) i u)
-      go (had f) = had (record { before = f .before; within = omega arith; at = f .at; taken = f .taken; picked = f .picked; left = f .left; step = f .step })
-      go (not-yet s) = onward n x u p s q (group-step-is k x u q)
+      go : (x : Group) → Or (Turns k m (t + 1) i) (Still m (t + 1) i x) → (Still m (t + 1) i x → Turns k m (countOf m) i ⊎ Stops k m (countOf m)) → Turns k m (countOf m) i ⊎ Stops k m (countOf m)
+      go x (had a) on = inl (record { before = a .before; within = omega (arith, a .within, e); at = a .at; taken = a .taken; picked = a .picked; left = a .left; step = a .step })
+      go x (not-yet y) on = on y
 
--- a step was taken from m: the turn names a warp
-turn-below : (k : List ℕ) (t : ℕ) (m u : Group) → 0 < t → GroupSteps k t m u → m .turn < countOf m
-turn-below k t m u h start = absurd (omega arith)
-turn-below k t m u h (more start q) = let t = group-taken k m u q .ready in going m (ready-fit k m t .goes) (t .going) .0
-turn-below k t m u h (more (more {t = n} p r) q) = turn-below k (n + 1) m _ (omega arith) (more p r)
+      -- it runs, so not all have ended
+      not-all : allEnded (u .warps) ≡ false
+      not-all = not-ended (u .warps) i (omega (arith, s .count)) (runs-is (warpAt i u) (s .running) .0)
+
+      refused : (groupStepOf k u .code ≡ 0 → ⊥) → Turns k m (countOf m) i ⊎ Stops k m (countOf m)
+      refused z =
+          let r = unrefused k u f in
+          let one : groupStepOf k u .code ≡ 1 → ⊥ = r .0 in
+          let two : groupStepOf k u .code ≡ 2 → ⊥ = r .1 in
+          let three : groupStepOf k u .code ≡ 3 → ⊥ = λ c. refute (group-refusals k u .row3 .0 c .1 .1) not-all in
+          inr (record { steps = t; fewer = omega (arith, e); at = u; taken = p; stopped = past-three _ z one two three })
 
 pub fair : Fair
-fair k m u i h r p = go (so-far k m i h (countOf m) u (turn-below k (countOf m) m u (omega arith) p) r p)
-  where
-    go : Or (Turns k m (countOf m) i) (Still m (countOf m) i u) → Turns k m (countOf m) i
-    go (had f) = f
-    go (not-yet s) = absurd (omega (arith, s .short))
+fair k m i z a h r =
+    let f : Fits k m = record { fit = tested-fit k m z; splits = a } in
+    let b : m .turn < countOf m = going m (f .fit .goes) (not-ended (m .warps) i h (runs-is (warpAt i m) r .0)) .0 in
+    let w : Within (countOf m) (m .turn) i = within (countOf m) (m .turn) i b h in
+    from k m i h (countOf m) 0 m (omega arith) start f (record { count = refl; running = r; far = w .far; there = w .there; short = omega arith })

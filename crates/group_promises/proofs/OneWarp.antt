@@ -18,7 +18,8 @@ use Rattle.group.specs.Group.{Group, group, warpAt, fileAt, withFileAt, stateAt
 use Rattle.group.specs.GroupRefuse.{fixedAt}
 use Rattle.group.specs.GroupCalls.{groupOutcome, groupStepOf}
 use Rattle.group.proofs.GroupLaws.{by-test, refute, some-runs, Running, who-runs, runs-is, runs-if, ended-at, freed-runs, settled-on, settled-off, gone-on}
-use Rattle.group.proofs.GroupFacts.{GroupFit, fit-sizes, fit-formed, fit-place, InPlace, all-placed, going, goes-on}
+use Rattle.group.specs.Places.{InPlace}
+use Rattle.group.proofs.GroupFacts.{GroupFit, fit-sizes, fit-formed, fit-place, all-placed, going, goes-on}
 use Rattle.group.proofs.GroupCases.{Ready, by-group-step}
 use Rattle.promises.proofs.Refusals.{step-refusals}
 use Rattle.group_promises.specs.Runs.{groupTested}

@@ -19,11 +19,11 @@ use Rattle.group.specs.Group.{Group, warpAt, stateAt, pickOf}
 use Rattle.group.specs.GroupRefuse.{allBelow, sizesOkOf, placedOf, groupTests, groupStepTests}
 use Rattle.group.specs.GroupCalls.{GroupRan, groupStepOf, groupStepsOf, groupRunOf, groupLaunchOf}
 use Rattle.group.proofs.GroupLaws.{refute, runs-is}
-use Rattle.group.proofs.GroupFacts.{GroupFit, fit-place}
+use Rattle.group.proofs.GroupFacts.{GroupFit, placed-at, all-placed, fit-place}
 use Rattle.group.proofs.GroupCases.{Ready, pickedStep, by-group-step, group-turn-end, group-turn-on, group-turn-off}
 use Rattle.group_promises.specs.Steps.{Picked}
 use Rattle.group_promises.specs.Reached.{launchAt}
-use Rattle.group_promises.specs.Refusals.{GroupRows, GroupRefusals, groupNumbers, GroupAnswers, GroupRunAnswers, GroupKeeps, GroupLaunchRefusals}
+use Rattle.group_promises.specs.Refusals.{GroupRows, GroupRefusals, groupNumbers, GroupAnswers, GroupRunAnswers, GroupKeeps, GroupPlaces, GroupLaunchRefusals}
 use Rattle.group_promises.proofs.Steps.{ready-fit, ready-picked, tests-ready, picked-one}
 
 yes : {A B : Type 0} → A → B → Iff A B
@@ -140,6 +140,9 @@ record Launches (fits : Bool) (n : ℕ) : Type 0 where
 
 refuses : Launches false 1
 refuses = record { row0 = no (λ e. omega arith) (λ e. true≢false (sym e)); row1 = yes refl refl; answers = λ z. refl }
+
+pub group-places : GroupPlaces
+group-places fs = (placed-at fs, all-placed fs)
 
 launches : (a b c : Bool) → Launches (a && (b && c)) (first (1 ⇒ not a ∷ 1 ⇒ not b ∷ 1 ⇒ not c ∷ []))
 launches true true true = record { row0 = yes refl refl; row1 = no (λ e. omega arith) true≢false; answers = λ z. absurd (z refl) }

@@ -24,7 +24,7 @@ use Rattle.group_promises.proofs.Goes.{Fits, goes-fits}
 use Rattle.group_promises.proofs.Reached.{group-reached-fits}
 
 -- a step answered 0
-answered : (k : List ℕ) (m : Group) → groupStepOf k m .code ≡ 0 → groupStepOf k m ≡ groupOutcome 0 0 (groupStepOf k m .left)
+pub answered : (k : List ℕ) (m : Group) → groupStepOf k m .code ≡ 0 → groupStepOf k m ≡ groupOutcome 0 0 (groupStepOf k m .left)
 answered k m z = let s = group-refusals k m .stopsNot (omega arith) in ap₂ (λ (c i : ℕ). groupOutcome c i (groupStepOf k m .left)) z s
 
 module _ (k : List ℕ) where
@@ -134,7 +134,7 @@ pub group-run-reaches : GroupRunReaches
 group-run-reaches k ls n m r = steps-reached k ls (groupRunOf k n m .steps) m _ r (group-run-iterates k n m (fits-tested k m (group-reached-fits k ls m r)) .taken)
 
 -- a step of a group that fits
-unrefused : (k : List ℕ) (m : Group) → Fits k m → (groupStepOf k m .code ≡ 1 → ⊥) × (groupStepOf k m .code ≡ 2 → ⊥)
+pub unrefused : (k : List ℕ) (m : Group) → Fits k m → (groupStepOf k m .code ≡ 1 → ⊥) × (groupStepOf k m .code ≡ 2 → ⊥)
 unrefused k m f =
     let t = group-refusals k m in
     (λ e. refute (fit-sizes k m (f .fit)) (t .row1 .0 e), λ e. refute (fit-formed k m (f .fit)) (t .row2 .0 e .1))

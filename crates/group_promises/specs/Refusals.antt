@@ -6,13 +6,15 @@ use mathlib.Core.List.{List, [], _∷_, map}
 use lib.ListN.{length, replicate}
 use Rattle.answer.specs.Rows.{first, oneOf, Iff}
 use Rattle.memory.specs.Memories.{Contents}
+use Rattle.warp.specs.declared.Fixed.{Fixed}
 use Rattle.warp.specs.declared.Launch.{Launch}
 use Rattle.warp.specs.Warp.{zeroWarp}
 use Rattle.warp.specs.WellFormed.{launchOkOf}
 use Rattle.definition.specs.Step.{stepOf}
 use Rattle.definition.specs.Calls.{launchedOf}
 use Rattle.group.specs.Group.{Group, group, warpAt, fixedsOf, fileStart, stateAt, allEnded}
-use Rattle.group.specs.GroupRefuse.{allBelow, sizesOkOf, placedOf, formedOf, groupStepTests}
+use Rattle.group.specs.GroupRefuse.{allBelow, fixedAt, sizesOkOf, placedOf, formedOf, groupStepTests}
+use Rattle.group.specs.Places.{InPlace}
 use Rattle.group.specs.GroupCalls.{GroupOutcome, groupOutcome, groupStepOf, groupRunOf, groupLaunchOf}
 use Rattle.group_promises.specs.Steps.{Picked}
 use Rattle.group_promises.specs.Reached.{launchAt}
@@ -50,6 +52,10 @@ GroupRunAnswers = (k : List ℕ) (n : ℕ) (m : Group) → oneOf (0 ∷ groupNum
 -- A refused step leaves the group as handed in, the turn too.
 abbrev pub GroupKeeps : Type 0
 GroupKeeps = (k : List ℕ) (m : Group) → (groupStepOf k m .code ≡ 0 → ⊥) → groupStepOf k m .left ≡ m
+
+-- Refusals 1 at a launch and 2 after it ask of the warps' launch values: WID i and NUMW in warp i of as many, and NUMT, code base, data base and LDS as warp 0 has them.
+abbrev pub GroupPlaces : Type 0
+GroupPlaces = (fs : List Fixed) → Iff (placedOf fs ≡ true) ((i : ℕ) → i < length fs → InPlace (length fs) (fixedAt fs 0) i (fixedAt fs i))
 
 -- ---- a launch
 

@@ -1,6 +1,6 @@
 // A group over a lent run of warps. The run is copied into a group by value, which takes the step, and copied back.
-use group_drive::WARPS;
 use group_machine::Group;
+use group_words::WARPS;
 use warp::Warp;
 ghost use mathlib.Core.Path.{_≡_};
 ghost use Prim.Native.Nat.{_<_};

@@ -21,16 +21,14 @@ use Rattle.group.specs.GroupRefuse.{warpsLimit, allBelow, sizesOkOf}
 use Rattle.group.specs.GroupCalls.{GroupOutcome, groupOutcome, GroupRan, groupRan, groupRunOf}
 use Rattle.group.proofs.GroupLaws.{by-test, below-same, below-at}
 use Rattle.group.proofs.GroupCases.{group-run-size, group-run-one}
-use Rattle.group_drive.specs.Row.{Row, row, wordsAt, tabulate, warpIn, groupIn as rowGroup, Rooms, allSound, groupWordsRunOf, GroupRuns, fixedsIn}
-use Rattle.group_drive.proofs.Tabulate.{tab-length, tab-at, tab-same}
-use Rattle.group_drive.proofs.Running.{sound-at, fixeds-are}
-use Rattle.group_state.specs.GroupState.{joined, stateWordsOf, countIn, isGroup, wordsIn, groupIn, allSoundIn, GroupCalled, groupCalled, groupWordsTests, groupStepCallOf, groupRunCallOf}
+use Rattle.group_words.specs.Row.{Row, row, wordsAt, tabulate, warpIn, groupIn as rowGroup, Rooms, allSound, fixedsIn}
+use Rattle.group_drive.specs.GroupDrives.{groupWordsRunOf, GroupRuns}
+use Rattle.group_words.specs.StateWords.{joined, stateWordsOf}
+use Rattle.group_words.proofs.StateWords.{joined-same}
+use Rattle.group_words.proofs.Tabulate.{tab-length, tab-at, tab-same}
+use Rattle.group_words.proofs.Sound.{sound-at, fixeds-are}
+use Rattle.group_state.specs.GroupState.{countIn, isGroup, wordsIn, groupIn, allSoundIn, GroupCalled, groupCalled, groupWordsTests, groupStepCallOf, groupRunCallOf}
 use Rattle.group_state.specs.Got.{Halls, Got, putAt}
-
-joined-same : (n : ℕ) (f g : ℕ → List ℕ) → ((i : ℕ) → i < n → f i ≡ g i) → joined n f ≡ joined n g
-unfolding joined
-joined-same zero f g h = refl
-joined-same (suc n) f g h = ap₂ _++_ (joined-same n f g (λ i b. h i (le-trans b (le-suc n)))) (h n (le-refl (suc n)))
 
 -- ---- a state that has a group's length
 
@@ -77,6 +75,16 @@ module _ (s : List ℕ) (o : isGroup s ≡ true) where
       ap (λ (r : List ℕ). getD s 0 0 ∷ r)
       (sym (ap (λ (r : List ℕ). joined N (λ j. wordsIn j s) ++ r) (drop-of-length-le s {i = 1 + N * stateWords} (omega (arith, state-long))) ∙ append-nil (joined N (λ j. wordsIn j s))) ∙ fronts N)
       ∙ headed s (omega (arith, state-long))
+
+  -- words of warps are those of the group that they stand for
+  pub state-back : (v : List ℕ) (c : Contents) → allSoundIn s ≡ true → stateWordsOf (groupIn s v c) ≡ s
+  state-back v c y =
+      let f : ℕ → Warp = λ i. warpOn (wordsIn i s) in
+      ap (λ (l : List ℕ). getD s 0 0 ∷ l)
+      (ap (λ (m : ℕ). joined m (λ i. wordsOf (getD (tabulate N f) i zeroWarp))) (tab-length N f)
+      ∙ joined-same N (λ i. wordsOf (getD (tabulate N f) i zeroWarp)) (λ i. wordsIn i s)
+      (λ i h. ap wordsOf (tab-at N f zeroWarp i h) ∙ warp-words (wordsIn i s) (word-long i h) (below-at N (λ j. soundIn (wordsIn j s)) y i h)))
+      ∙ whole
 
   -- ---- the words that were copied out of it
   module _ (a : Row) (g : Got N s a) where
@@ -151,7 +159,7 @@ module _ (s : List ℕ) (o : isGroup s ≡ true) where
       Sizes = sizesOkOf k (fixedsOf (groupIn s v d)) v d
 
       same : allSound N a ≡ true → stateWordsOf (groupIn s v d) ≡ s
-      same y = ap stateWordsOf (sym (group-is v d)) ∙ sym (words-of (getD s 0 0) a v d refl rooms-are y) ∙ put-same
+      same y = state-back v d (sym sound-is ∙ y)
 
       sound-leaves : allSound N a ≡ true → (z : Bool) → Sizes ≡ z → leaves (groupRunOf k n (groupIn s v d)) ≡ groupRunCallOf s k n v d (told 0 0)
       unfolding groupRunCallOf

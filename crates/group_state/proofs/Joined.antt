@@ -9,8 +9,9 @@ use lib.Seq.{getD-set-same, getD-set-other, take-at, drop-at, drop-drop, length-
 use Rattle.group.specs.GroupRefuse.{warpsLimit}
 use Rattle.group.proofs.GroupLaws.{by-equal}
 use Rattle.layout.specs.Words.{stateWords, scalarPart, splitPart, movingPart, fixedPart}
-use Rattle.group_drive.specs.Row.{Row, row, wordsAt}
-use Rattle.group_state.specs.GroupState.{joined, wordsIn}
+use Rattle.group_words.specs.Row.{Row, row, wordsAt}
+use Rattle.group_words.specs.StateWords.{joined}
+use Rattle.group_state.specs.GroupState.{wordsIn}
 use Rattle.group_state.specs.Got.{Halls, Got}
 
 -- ---- copied out

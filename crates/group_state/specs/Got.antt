@@ -5,7 +5,7 @@ use mathlib.Core.List.{List, _++_}
 use lib.ListN.{length}
 use Rattle.layout.specs.Words.{scalarPart, splitPart, movingPart, fixedPart}
 use Rattle.group.specs.GroupRefuse.{warpsLimit}
-use Rattle.group_drive.specs.Row.{Row, wordsAt}
+use Rattle.group_words.specs.Row.{Row, wordsAt}
 use Rattle.group_state.specs.GroupState.{wordsIn}
 
 -- room for as many warps as a group may have

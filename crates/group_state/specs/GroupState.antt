@@ -1,29 +1,20 @@
--- A group as words: the turn, then each warp's words one after another.
-use Prim.Native.Nat.{ℕ, zero, suc, _+_, _-_, _*_, _/_}
+-- The group that a state's words stand for, and the calls on a state.
+use Prim.Native.Nat.{ℕ, _+_, _-_, _*_, _/_}
 use mathlib.Core.Bool.{Bool, not, cond, _&&_}
-use mathlib.Core.List.{List, [], _∷_, _++_}
+use mathlib.Core.List.{List, [], _∷_}
 use lib.Dec.{eqb}
 use lib.ListN.{length, getD, take, drop}
 use Rattle.answer.specs.Rows.{Row, _⇒_, first, between}
 use Rattle.memory.specs.Memories.{Contents}
 use Rattle.warp.specs.declared.Warp.{Warp}
-use Rattle.layout.specs.Words.{stateWords, wordsOf, warpIn, soundIn}
-use Rattle.group.specs.Group.{Group, group, countOf, warpAt, fixedsOf}
+use Rattle.layout.specs.Words.{stateWords, warpIn, soundIn}
+use Rattle.group.specs.Group.{Group, group, fixedsOf}
 use Rattle.group.specs.GroupRefuse.{warpsLimit, allBelow, sizesOkOf}
 use Rattle.group.specs.GroupCalls.{GroupOutcome, groupStepOf, GroupRan, groupRunOf}
-use Rattle.group_drive.specs.Row.{tabulate}
+use Rattle.group_words.specs.Row.{tabulate}
+use Rattle.group_words.specs.StateWords.{stateWordsOf}
 
--- ---- a group's words
-
--- f at each number below n, one after another
-unfoldable pub joined : ℕ → (ℕ → List ℕ) → List ℕ
-joined zero f = []
-joined (suc n) f = joined n f ++ f n
-
-abbrev pub stateWordsOf : Group → List ℕ
-stateWordsOf m = m .turn ∷ joined (countOf m) (λ i. wordsOf (warpAt i m))
-
--- ---- and back: how many warps a state has room for, and whether it is a group's of 1 to 32 warps
+-- ---- what words stand for: how many warps a state has room for, and whether it is a group's of 1 to 32 warps
 
 abbrev pub countIn : List ℕ → ℕ
 countIn s = (length s - 1) / stateWords

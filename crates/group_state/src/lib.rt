@@ -1,6 +1,6 @@
 // A run of a group on its state's own words: the turn, then each warp's 241 words.
 use group_drive::GroupDrove;
-use group_drive::WARPS;
+use group_words::WARPS;
 use layout::FIXED;
 use layout::FLAT;
 use layout::MOVING;
@@ -15,8 +15,9 @@ ghost use lib.ListN.{length};
 ghost use Rattle.memory.specs.Memories.{contents};
 ghost use Rattle.layout.specs.Words.{stateWords};
 ghost use Rattle.group.specs.GroupRefuse.{warpsLimit};
-ghost use Rattle.group_drive.specs.Row.{row};
-ghost use Rattle.group_state.specs.GroupState.{joined, isGroup, groupCalled, groupRunCallOf};
+ghost use Rattle.group_words.specs.Row.{row};
+ghost use Rattle.group_words.specs.StateWords.{joined};
+ghost use Rattle.group_state.specs.GroupState.{isGroup, groupCalled, groupRunCallOf};
 ghost use Rattle.group_state.specs.Got.{Halls, Got, putAt};
 
 // A state of 1 to 32 warps.

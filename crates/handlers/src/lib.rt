@@ -253,7 +253,7 @@ pub fn join(h: &mut [u32; MOVING], s: &mut [u32; FLAT]) -> u32
     requires { ⌜ (length (now h) ≡ movingCount) × (length (now s) ≡ flatCount) × (depthIn (now h) ≤ splitCount) ⌝ }
     ensures { λ c. ⌜ ((g x v : List ℕ) (d : Contents) → Handles (execOf Instr.Join) c (lists g (now (h .entry)) x (now (s .entry)) v d) (lists g (now (h .exit)) x (now (s .exit)) v d)) ⌝ }
 {
-    running::join(h, s);
+    splits::join(h, s);
     answer::DONE
 }
 

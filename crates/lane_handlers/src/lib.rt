@@ -193,7 +193,7 @@ pub fn vbranch(
     if (e != 0) & (p % 4 != 0) {
         return answer::BAD_TARGET;
     }
-    running::part(h, s, e, p);
+    splits::part(h, s, e, p);
     answer::DONE
 }
 
@@ -212,7 +212,7 @@ fn some_crosses(
     requires { ⌜ LanesAt mask (now g) (now v) × (off < offsetLimit space) × (size ≤ 4) ⌝ }
     ensures { λ t. ⌜ t ≡ not (inWords space size off mask w (now (g .entry)) (now (v .entry))) ⌝ }
 {
-    !lane_memory::all_in_word(space, v, fields::vs1(w), off, size, mask, threads(g))
+    !lane_address::all_in_word(space, v, fields::vs1(w), off, size, mask, threads(g))
 }
 
 // Where the lanes' accesses go.
@@ -220,7 +220,7 @@ fn lane_addresses(space: Space, off: u16, g: &[u32; FIXED], v: &[u32], w: u64) -
     requires { ⌜ (length (now v) ≡ fileWords) × FixedOk (fixedIn (now g)) × (off < offsetLimit space) ⌝ }
     ensures { λ o. ⌜ RowOf (fixedIn (now (g .entry)) .numt) (addressAt space off w (now (g .entry)) (now (v .entry))) o ⌝ }
 {
-    lane_memory::addresses(space, private(g), v, fields::vs1(w), off, threads(g))
+    lane_address::addresses(space, private(g), v, fields::vs1(w), off, threads(g))
 }
 
 // 0 where every active lane's access lies inside, else 9.

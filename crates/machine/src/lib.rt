@@ -1,25 +1,16 @@
-// The public calls of the bench machine: launch, step, run, release. Each answers for all inputs, and asks nothing of its caller.
+// The public calls of the bench machine that step a warp: step and run. Each answers for all inputs, and asks nothing of its caller. Launch and release are in launch_release.
 use answer::Answer;
 use answer::Refusal;
-use warp::Launch;
+use launch_release::Left;
 use warp::SPLITS;
 use warp::Warp;
 ghost use mathlib.Core.Path.{_≡_};
 ghost use Prim.Native.Nat.{_<_};
-ghost use lib.ListN.{length, replicate};
 ghost use Rattle.answer.specs.Answer.{numberOf};
-ghost use Rattle.lanes.specs.Lanes.{fileWords};
 ghost use Rattle.memory.specs.Memories.{alone};
-ghost use Rattle.warp.specs.Warp.{answered};
 ghost use Rattle.definition.specs.State.{state, outcome};
 ghost use Rattle.definition.specs.Step.{stepOf};
-ghost use Rattle.definition.specs.Calls.{launchedOf, launchOf, ran, budgetLimit, runOf, releaseOf};
-
-// What a call leaves: its answer and the warp.
-pub struct Left {
-    pub answer: Answer,
-    pub warp: Warp,
-}
+ghost use Rattle.definition.specs.Calls.{ran, budgetLimit, runOf};
 
 // What a run leaves; `steps` counts the steps that were taken.
 pub struct RunLeft {
@@ -27,66 +18,6 @@ pub struct RunLeft {
     pub steps: u32,
     pub warp: Warp,
 }
-
-// ---- a launch
-
-fn clear(vector: &mut [u32])
-    requires { ⌜ length (now vector) ≡ fileWords ⌝ }
-    ensures { λ _. ⌜ now (vector .exit) ≡ replicate fileWords 0 ⌝ }
-{
-    let mut i = 0;
-    while i < vector.len() {
-        vector[i] = 0;
-        i += 1;
-    }
-}
-
-pub fn launched(l: Launch) -> Warp
-    ensures { λ w. ⌜ w ≡ launchedOf l ⌝ }
-{
-    let f = l.fixed;
-    let z = warp::zero_split();
-    Warp {
-        x: [0; 64],
-        splits: [z; 31],
-        depth: 0,
-        pc: l.entry,
-        mask: f.launchMask,
-        rpc: 0,
-        print: 0,
-        ended: false,
-        waiting: false,
-        prefix: warp::no_prefix(),
-        fixed: f,
-    }
-}
-
-// A warp at its entry PC, with the vector file cleared.
-pub fn launch(l: Launch, kernel: &[u32], vector: &mut [u32], bytes: &[u8]) -> Left
-    ensures { λ r. ⌜ outcome (numberOf (r .answer)) (state (r .warp) (now (vector .exit)) (alone (now (bytes .entry)))) ≡ launchOf (now (kernel .entry)) l (now (vector .entry)) (alone (now (bytes .entry))) ⌝ }
-{
-    let none = [0u8; 0];
-    let f = l.fixed;
-    if !drive::runs_ok(f, kernel, vector, bytes, &none) {
-        return Left {
-            answer: Answer::Refused(Refusal::Size),
-            warp: warp::zero_warp(),
-        };
-    }
-    if !warp::launch_ok(l) {
-        return Left {
-            answer: Answer::Refused(Refusal::Size),
-            warp: warp::zero_warp(),
-        };
-    }
-    clear(vector);
-    Left {
-        answer: Answer::Done,
-        warp: launched(l),
-    }
-}
-
-// ---- a run
 
 fn refused_run(r: Refusal, w: Warp) -> RunLeft
     ensures { λ t. ⌜ t ≡ record { answer = Answer.Refused r; steps = 0; warp = w } ⌝ }
@@ -104,7 +35,7 @@ pub fn run(w: Warp, kernel: &[u32], vector: &mut [u32], bytes: &mut [u8], budget
 {
     let mut none = [0u8; 0];
     let f = w.fixed;
-    if !drive::runs_ok(f, kernel, vector, bytes, &none) {
+    if !sizes::runs_ok(f, kernel, vector, bytes, &none) {
         return refused_run(Refusal::Size, w);
     }
     if SPLITS < w.depth {
@@ -142,31 +73,4 @@ pub fn step(w: Warp, kernel: &[u32], vector: &mut [u32], bytes: &mut [u8]) -> Le
     let a = r.answer;
     let u = r.warp;
     Left { answer: a, warp: u }
-}
-
-// ---- a release
-
-// A warp that waits at a barrier runs again.
-pub fn release(w: Warp) -> Left
-    ensures { λ r. ⌜ answered (numberOf (r .answer)) (r .warp) ≡ releaseOf w ⌝ }
-{
-    if !formed::well_formed(w) {
-        return Left {
-            answer: Answer::Refused(Refusal::Malformed),
-            warp: w,
-        };
-    }
-    if !w.waiting {
-        return Left {
-            answer: Answer::Refused(Refusal::NotWaiting),
-            warp: w,
-        };
-    }
-    let mut freed = w;
-    freed.ended = false;
-    freed.waiting = false;
-    Left {
-        answer: Answer::Done,
-        warp: freed,
-    }
 }

@@ -22,7 +22,8 @@ use Rattle.definition.specs.Calls.{launchOf, runOf}
 use Rattle.definition.proofs.Sizes.{sizes-kept}
 use Rattle.launch_files.specs.LaunchFiles.{kernelWordsOf, readFilesOf}
 use Rattle.text.specs.Puts.{Puts}
-use Rattle.printout.specs.Printout.{codeLine, budget, Report, report, ranReport, kernelReport, reportOf, printoutOf, Printed, printed, putInto, buffersOkOf, printFilesOf, roomNeeded}
+use Rattle.lines.specs.Lines.{codeLine, roomNeeded}
+use Rattle.printout.specs.Printout.{budget, Report, report, ranReport, kernelReport, reportOf, printoutOf, Printed, printed, putInto, buffersOkOf, printFilesOf}
 
 -- ---- the files
 

@@ -15,7 +15,8 @@ use Rattle.definition.specs.Step.{stepOf}
 use Rattle.definition.specs.Calls.{launchOf, stepsOf, runOf}
 use Rattle.launch_files.specs.LaunchFiles.{kernelWordsOf, filesOkOf, readFilesOf}
 use Rattle.text.specs.Text.{decimalOf, hexOf}
-use Rattle.printout.specs.Printout.{codeLine, fiveLines, kernelReport, reportOf, printoutOf}
+use Rattle.lines.specs.Lines.{codeLine, fiveLines}
+use Rattle.printout.specs.Printout.{kernelReport, reportOf, printoutOf}
 
 -- length 48, version 1, NUMT 4, NUMW 1, WID 0; the mask; code base, data base and entry PC; KNL to GIDZ
 abbrev card : List ℕ

@@ -1,7 +1,7 @@
 -- The printout: five lines after a run, or the code line alone after a refused card or launch.
 use Prim.Native.Nat.{ℕ}
 use mathlib.Core.Bool.{Bool, _&&_, cond}
-use mathlib.Core.List.{List, [], _∷_, _++_}
+use mathlib.Core.List.{List}
 use lib.Dec.{eqb, leb}
 use lib.ListN.{length, replicate}
 use lib.Seq.{sets}
@@ -11,43 +11,7 @@ use Rattle.warp.specs.declared.Launch.{Launch}
 use Rattle.definition.specs.State.{Outcome}
 use Rattle.definition.specs.Calls.{launchOf, Ran, runOf}
 use Rattle.launch_files.specs.LaunchFiles.{kernelWordsOf, readFilesOf}
-use Rattle.text.specs.Text.{hexOf, decimalOf, lineOf}
-
--- ---- the lines' names in ASCII, each with the blank after it
-
--- c o d e
-abbrev pub codeName : List ℕ
-codeName = 99 ∷ 111 ∷ 100 ∷ 101 ∷ 32 ∷ []
-
--- s t e p s
-abbrev pub stepsName : List ℕ
-stepsName = 115 ∷ 116 ∷ 101 ∷ 112 ∷ 115 ∷ 32 ∷ []
-
--- p c
-abbrev pub pcName : List ℕ
-pcName = 112 ∷ 99 ∷ 32 ∷ []
-
--- m a s k
-abbrev pub maskName : List ℕ
-maskName = 109 ∷ 97 ∷ 115 ∷ 107 ∷ 32 ∷ []
-
--- s p l i t s
-abbrev pub splitsName : List ℕ
-splitsName = 115 ∷ 112 ∷ 108 ∷ 105 ∷ 116 ∷ 115 ∷ 32 ∷ []
-
--- ---- the lines
-
-unfoldable pub codeLine : ℕ → List ℕ
-codeLine code = lineOf codeName (decimalOf code)
-
--- of the code, the steps taken, and the warp's PC, mask and open splits
-unfoldable pub fiveLines : ℕ → ℕ → ℕ → ℕ → ℕ → List ℕ
-fiveLines code steps pc mask splits =
-    codeLine code
-    ++ lineOf stepsName (decimalOf steps)
-    ++ lineOf pcName (hexOf pc)
-    ++ lineOf maskName (hexOf mask)
-    ++ lineOf splitsName (decimalOf splits)
+use Rattle.lines.specs.Lines.{codeLine, fiveLines, roomNeeded}
 
 -- ---- three files in, lines out
 
@@ -101,10 +65,6 @@ printed n o v d = record { size = n; out = o; vector = v; bytes = d }
 -- the lines at the start of o
 abbrev pub putInto : List ℕ → Report → Printed
 putInto o p = printed (length (p .lines)) (sets o 0 (p .lines)) (p .vector) (p .bytes)
-
--- a buffer of this length holds every printout
-abbrev pub roomNeeded : ℕ
-roomNeeded = 107
 
 -- a whole vector file, and room for every printout
 unfoldable pub buffersOkOf : List ℕ → List ℕ → Bool

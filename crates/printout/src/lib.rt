@@ -5,30 +5,8 @@ ghost use mathlib.Core.Path.{_≡_};
 ghost use Prim.Native.Nat.{_≤_};
 ghost use lib.ListN.{length};
 ghost use Rattle.io.specs.Counts.{Counts};
-ghost use Rattle.text.specs.Puts.{Puts};
-ghost use Rattle.printout.specs.Printout.{codeLine, fiveLines, kernelReport, reportOf, printed, putInto, buffersOkOf, printFilesOf, roomNeeded};
-
-// ---- the printout, from the start of `out`
-
-fn put_code_line(out: &mut [u8], code: u32) -> usize
-    requires { ⌜ roomNeeded ≤ length (now out) ⌝ }
-    ensures { λ r. ⌜ Puts (now (out .entry)) 0 (codeLine code) (now (out .exit)) r × (r ≤ 26) ⌝ }
-{
-    text::put_decimal_line(out, 0, b"code ", code as u64)
-}
-
-fn put_five_lines(out: &mut [u8], code: u32, steps: u64, pc: u32, mask: u32, splits: u64) -> usize
-    requires { ⌜ roomNeeded ≤ length (now out) ⌝ }
-    ensures { λ r. ⌜ Puts (now (out .entry)) 0 (fiveLines code steps pc mask splits) (now (out .exit)) r × (r ≤ roomNeeded) ⌝ }
-{
-    let one = put_code_line(out, code);
-    let two = text::put_decimal_line(out, one, b"steps ", steps);
-    let three = text::put_hex_line(out, two, b"pc ", pc);
-    let four = text::put_hex_line(out, three, b"mask ", mask);
-    text::put_decimal_line(out, four, b"splits ", splits)
-}
-
-// ---- three files in, lines out
+ghost use Rattle.lines.specs.Lines.{roomNeeded};
+ghost use Rattle.printout.specs.Printout.{kernelReport, reportOf, printed, putInto, buffersOkOf, printFilesOf};
 
 // The bytes that hold every printout.
 pub const ROOM: usize = 107;
@@ -48,17 +26,17 @@ fn print_kernel(
     requires { ⌜ roomNeeded ≤ length (now out) ⌝ }
     ensures { λ r. ⌜ (printed r (now (out .exit)) (now (vector .exit)) (now (bytes .exit)) ≡ putInto (now (out .entry)) (kernelReport (now (kernel .entry)) l (now (vector .entry)) (now (bytes .entry)))) × (r ≤ roomNeeded) ⌝ }
 {
-    let left = machine::launch(l, kernel, vector, bytes);
+    let left = launch_release::launch(l, kernel, vector, bytes);
     let a = left.answer;
     let code = answer::number(a);
     if code != answer::DONE {
-        return put_code_line(out, code);
+        return lines::put_code_line(out, code);
     }
     let w = left.warp;
     let ran = machine::run(w, kernel, vector, bytes, BUDGET);
     let b = ran.answer;
     let u = ran.warp;
-    put_five_lines(
+    lines::put_five_lines(
         out,
         answer::number(b),
         ran.steps as u64,
@@ -83,7 +61,7 @@ fn print_card(
     let a = read.answer;
     let code = answer::number(a);
     if code != answer::DONE {
-        return put_code_line(out, code);
+        return lines::put_code_line(out, code);
     }
     let mut words = [0u32; KERNEL_WORDS];
     launch_files::put_words(kernel, &mut words);

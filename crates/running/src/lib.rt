@@ -1,16 +1,13 @@
-// What moves a running warp, on its lent words: registers, PC, splits and CSRs.
+// What moves a running warp, on its lent words: registers, PC, prefix and CSRs. Splits are in the crate splits.
 use isa::CsrOp;
 use isa::XReg;
 use layout::BITS;
-use layout::DEPTH;
 use layout::FIXED;
-use layout::FLAT;
 use layout::GIDX;
 use layout::GIDY;
 use layout::GIDZ;
 use layout::KNL;
 use layout::LDS;
-use layout::MASK;
 use layout::MOVING;
 use layout::NUMT;
 use layout::NUMW;
@@ -22,25 +19,18 @@ use layout::RPC;
 use layout::SCALARS;
 use layout::WGID;
 use layout::WID;
-use layout::put_split;
-use layout::split_at;
-use warp::Split;
-use warp::zero_split;
 ghost use mathlib.Core.Path.{_≡_};
 ghost use mathlib.Core.List.{List};
 ghost use Prim.Native.Nat.{ℕ, _+_, _-_, _*_, _^_, _≤_, _<_};
 ghost use lib.ListN.{length, getD};
-ghost use lib.Bits.{bitAnd};
-ghost use lib.Count.{ones};
 ghost use Rattle.isa.specs.Bounds.{scalarRegisters};
 ghost use Rattle.isa.specs.Prefix.{prefix};
-ghost use Rattle.lanes.specs.Lanes.{lanesMax};
-ghost use Rattle.warp.specs.Warp.{splitCount, setX, linked, withPrefix};
+ghost use Rattle.warp.specs.Warp.{setX, linked, withPrefix};
 ghost use Rattle.warp.specs.Facts.{FixedOk};
-ghost use Rattle.warp.specs.Splits.{openOf, parted, joinOf, setRpcOf};
+ghost use Rattle.warp.specs.Splits.{setRpcOf};
 ghost use Rattle.warp.specs.Csr.{csrAt, csrNew, csrDone, writesOf};
-ghost use Rattle.layout.specs.Words.{movingCount, flatCount, maskIn, depthIn, fixedIn, warpOf};
-ghost use Rattle.running.specs.Goes.{goIn, nextIn, resumeIn, csrIn, Goes};
+ghost use Rattle.layout.specs.Words.{movingCount, flatCount, fixedIn, warpOf};
+ghost use Rattle.running.specs.Goes.{goIn, nextIn, csrIn, Goes};
 
 // ---- scalar registers and the PC
 
@@ -90,84 +80,6 @@ pub fn put_prefix(h: &mut [u32; MOVING], kind: u32, bits: u32)
 {
     h[PREFIX] = kind;
     h[BITS] = bits;
-}
-
-// ---- splits
-
-// Sets how many splits are open, the mask and the PC.
-fn resume(h: &mut [u32; MOVING], depth: u32, mask: u32, pc: u32)
-    ensures { λ _. ⌜ now (h .exit) ≡ resumeIn depth mask pc (now (h .entry)) ⌝ }
-{
-    h[DEPTH] = depth;
-    h[MASK] = mask;
-    h[PC] = pc;
-}
-
-// A split opens: the lanes of e want p, the rest go on first.
-fn open(h: &mut [u32; MOVING], s: &mut [u32; FLAT], e: u32, p: u32)
-    requires { ⌜ (length (now h) ≡ movingCount) × (length (now s) ≡ flatCount) × (depthIn (now h) < splitCount) × (e ≤ maskIn (now h)) ⌝ }
-    ensures { λ _. ⌜ ((g x : List ℕ) → Goes (openOf e p) g (now (h .entry)) x (now (s .entry)) (now (h .exit)) x (now (s .exit))) ⌝ }
-{
-    let n = h[DEPTH];
-    let m = h[MASK];
-    let rest = m - e;
-    let after = word::add(h[PC], 4);
-    put_split(
-        s,
-        n as usize,
-        Split {
-            rpc: h[RPC],
-            full: m,
-            elseMask: e,
-            elsePc: p,
-            phaseTwo: false,
-        },
-    );
-    resume(h, n + 1, rest, after);
-}
-
-// VBRANCH, where the active lanes of e want p.
-pub fn part(h: &mut [u32; MOVING], s: &mut [u32; FLAT], e: u32, p: u32)
-    requires { ⌜ (length (now h) ≡ movingCount) × (length (now s) ≡ flatCount) × (depthIn (now h) + ones (maskIn (now h)) ≤ lanesMax) × (bitAnd e (maskIn (now h)) ≡ e) ⌝ }
-    ensures { λ _. ⌜ ((g x : List ℕ) → Goes (parted e p) g (now (h .entry)) x (now (s .entry)) (now (h .exit)) x (now (s .exit))) ⌝ }
-{
-    if e == 0 {
-        next(h);
-        return;
-    }
-    if e == h[MASK] {
-        h[PC] = p;
-        return;
-    }
-    open(h, s, e, p);
-}
-
-pub fn join(h: &mut [u32; MOVING], s: &mut [u32; FLAT])
-    requires { ⌜ (length (now h) ≡ movingCount) × (length (now s) ≡ flatCount) × (depthIn (now h) ≤ splitCount) ⌝ }
-    ensures { λ _. ⌜ ((g x : List ℕ) → Goes joinOf g (now (h .entry)) x (now (s .entry)) (now (h .exit)) x (now (s .exit))) ⌝ }
-{
-    let n = h[DEPTH] as usize;
-    let pc = h[PC];
-    let after = word::add(pc, 4);
-    if n == 0 {
-        h[PC] = after;
-        return;
-    }
-    let k = n - 1;
-    let q = split_at(s, k);
-    if pc != q.rpc {
-        h[PC] = after;
-        return;
-    }
-    if q.phaseTwo {
-        put_split(s, k, zero_split());
-        resume(h, k as u32, q.full, pc);
-        return;
-    }
-    let mut t = q;
-    t.phaseTwo = true;
-    put_split(s, k, t);
-    resume(h, n as u32, q.elseMask, q.elsePc);
 }
 
 // ---- CSRs and SETRPC

@@ -63,7 +63,7 @@ fn may_launch(l: Launch, kernel: &[u32], vector: &[u32], bytes: &[u8]) -> bool
 {
     let none = [0u8; 0];
     let f = l.fixed;
-    drive::runs_ok(f, kernel, vector, bytes, &none) & warp::launch_ok(l)
+    sizes::runs_ok(f, kernel, vector, bytes, &none) & warp::launch_ok(l)
 }
 
 // The run from a launch that is not refused.
@@ -77,7 +77,7 @@ fn trace_launch(
     requires { ⌜ sheetRoom ≤ length (now t) ⌝ }
     ensures { λ r. ⌜ Traces (now (kernel .entry)) (ownStart (now (kernel .entry)) l (now (vector .entry)) (now (bytes .entry))) r (now (vector .exit)) (now (bytes .exit)) (now (t .entry)) (now (t .exit)) ⌝ }
 {
-    let left = machine::launch(l, kernel, vector, bytes);
+    let left = launch_release::launch(l, kernel, vector, bytes);
     let w = left.warp;
     trace(w, kernel, vector, bytes, t)
 }

@@ -17,15 +17,6 @@ const GROUP_ROOM: usize = 7954;
 
 const VECTOR_ROOM: usize = 270336;
 
-// A word of a stopped or an out, 0 if it has not just `n` words.
-fn word_of(words: &[u32], n: usize, i: usize) -> u32 {
-    if words.len() == n && i < n {
-        words[i]
-    } else {
-        0
-    }
-}
-
 fn put_group_line(
     number: u32,
     code: u32,
@@ -43,7 +34,7 @@ fn put_group_line(
     test_io::put_decimal(code);
     test_io::put_decimal(steps);
     test_io::put_decimal(wid);
-    test_io::put_decimal(word_of(state, state.len(), 0));
+    test_io::put_decimal(test_io::word_of(state, state.len(), 0));
     test_io::put_last(test_io::mixed_words(lent, answered));
 }
 
@@ -134,7 +125,7 @@ fn step_lent(
 ) {
     let code = capi_group::bench_group_step(state, kernel, vector, bytes, local, stopped);
     let steps = if code == 0 { 1 } else { 0 };
-    let wid = word_of(stopped, 1, 0);
+    let wid = test_io::word_of(stopped, 1, 0);
     put_group_line(
         number,
         code,
@@ -181,8 +172,8 @@ fn run_lent(
     out: &mut [u32],
 ) {
     let code = capi_group::bench_group_run(state, kernel, vector, bytes, local, budget, out);
-    let steps = word_of(out, 2, 0);
-    let wid = word_of(out, 2, 1);
+    let steps = test_io::word_of(out, 2, 0);
+    let wid = test_io::word_of(out, 2, 1);
     put_group_line(number, code, steps, wid, state, vector, bytes, local, out);
 }
 

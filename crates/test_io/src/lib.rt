@@ -354,3 +354,12 @@ pub fn put_state_line(number: u32, code: u32, steps: u32, state: &[u32], last: u
         put_line(number, code, steps, 0, 0, 0, last);
     }
 }
+
+// A word of a call's answer, 0 if it has not just `n` words.
+pub fn word_of(words: &[u32], n: usize, i: usize) -> u32 {
+    if words.len() == n && i < n {
+        words[i]
+    } else {
+        0
+    }
+}

@@ -11,15 +11,6 @@ const BYTE_BEFORE: u8 = 165;
 // The longest target of a case.
 const TARGET_ROOM: usize = 53293;
 
-// A word of a result or a written, 0 if it has not just `n` words.
-fn word_of(words: &[u32], n: usize, i: usize) -> u32 {
-    if words.len() == n && i < n {
-        words[i]
-    } else {
-        0
-    }
-}
-
 fn mark_lent(
     number: u32,
     card: &[u8],
@@ -33,8 +24,8 @@ fn mark_lent(
     let digest = test_io::mixed_words(test_io::DIGEST, result);
     test_io::put_decimal(number);
     test_io::put_decimal(code);
-    test_io::put_decimal(word_of(result, 2, 0));
-    test_io::put_decimal(word_of(result, 2, 1));
+    test_io::put_decimal(test_io::word_of(result, 2, 0));
+    test_io::put_decimal(test_io::word_of(result, 2, 1));
     test_io::put_last(test_io::mixed_lent(digest, vector, bytes));
 }
 
@@ -75,7 +66,7 @@ fn write_lent(
     let digest = test_io::mixed_bytes(test_io::mixed_words(test_io::DIGEST, written), target);
     test_io::put_decimal(number);
     test_io::put_decimal(code);
-    test_io::put_decimal(word_of(written, 1, 0));
+    test_io::put_decimal(test_io::word_of(written, 1, 0));
     test_io::put_last(test_io::mixed_lent(digest, vector, bytes));
 }
 

@@ -3,7 +3,7 @@ use mathlib.Core.Path.{_≡_, refl}
 use native.Mathlib.Omega.{arith}
 use borrow.Author.Needs.{needs}
 use Rattle.memory.specs.Memories.{Data, Local, contents}
-use Rattle.group_drive.specs.Row.{row}
+use Rattle.group_words.specs.Row.{row}
 use Rattle.group_drive.proofs.Driving.{Going, going-start, going-on, turn-lengths, drives-end, drives-stop}
 use Rattle.group_drive.proofs.drive_group.Statement.{statement}
 use Rattle.group_drive.proofs.drive_group.Tie as tie

@@ -5,7 +5,7 @@ use borrow.Author.Needs.{needs}
 use borrow.Author.Tests.{not-true, not-false}
 use Rattle.memory.specs.Memories.{contents}
 use Rattle.group.specs.GroupRefuse.{sizesOkOf, formedOf}
-use Rattle.group_drive.specs.Row.{Row, row, fixedsIn, groupIn, allSound}
+use Rattle.group_words.specs.Row.{Row, row, fixedsIn, groupIn, allSound}
 use Rattle.group_drive.proofs.Running.{words-size, words-malformed, words-ready, words-none, words-ended, words-run}
 use Rattle.group_drive.proofs.run_group.Statement.{statement}
 use Rattle.group_drive.proofs.run_group.Tie as tie

@@ -5,7 +5,7 @@ use lib.ListN.{length}
 use borrow.Author.Needs.{needs}
 use Rattle.memory.specs.Memories.{Data, Local, contents}
 use Rattle.handlers.specs.Handles.{lists}
-use Rattle.group_drive.specs.Row.{row}
+use Rattle.group_words.specs.Row.{row}
 use Rattle.group_drive.proofs.Stepping.{started, file-room, turned-ended, moving-set, turned-refused, turned-taken}
 use Rattle.group_drive.proofs.step_group.Statement.{statement}
 use Rattle.group_drive.proofs.step_group.Tie as tie

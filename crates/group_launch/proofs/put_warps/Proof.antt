@@ -8,7 +8,7 @@ use lib.Seq.{take-all}
 use Rattle.layout.specs.Words.{wordsOf}
 use Rattle.definition.specs.Calls.{launchedOf}
 use Rattle.group_launch.specs.GroupLaunchCall.{readingAt}
-use Rattle.group_state.specs.GroupState.{joined}
+use Rattle.group_words.specs.StateWords.{joined}
 use Rattle.group_launch.proofs.Laws.{joined-none, part-long, put-long, joined-more, launched-long}
 use Rattle.group_launch.proofs.put_warps.Statement.{statement}
 use Rattle.group_launch.proofs.put_warps.Tie as tie

@@ -10,7 +10,8 @@ use Rattle.memory.specs.Memories.{contents}
 use Rattle.warp.proofs.Chain.{mapped}
 use Rattle.definition.specs.Calls.{budgetLimit}
 use Rattle.group.specs.GroupRefuse.{warpsLimit, allBelow, sizesOkOf}
-use Rattle.group_drive.specs.Row.{row, fixedsIn, GroupRuns}
+use Rattle.group_words.specs.Row.{row, fixedsIn}
+use Rattle.group_drive.specs.GroupDrives.{GroupRuns}
 use Rattle.group_machine.specs.Held.{shallowAt}
 use Rattle.group_machine.proofs.Taking.{rooms-are}
 use Rattle.group_machine.proofs.Held.{kept-same, held-many, held-none, held-size, held-deep, held-known, held-turn, held-runs, held-kept}

@@ -7,7 +7,7 @@ use borrow.Author.Needs.{needs}
 use borrow.Author.Tests.{le-leb, lt-leb}
 use Rattle.group.specs.GroupRefuse.{allBelow}
 use Rattle.group.proofs.GroupLaws.{below-not}
-use Rattle.group_drive.proofs.Testing.{below-none, below-more}
+use Rattle.group_words.proofs.Testing.{below-none, below-more}
 use Rattle.group_machine.specs.Held.{shallowAt}
 use Rattle.group_machine.proofs.shallow.Statement.{statement}
 use Rattle.group_machine.proofs.shallow.Tie as tie

@@ -4,7 +4,7 @@ use native.Mathlib.Nat.{le-antisymm}
 use native.Mathlib.Omega.{arith}
 use borrow.Author.Needs.{needs}
 use Rattle.warp.proofs.Chain.{mapped}
-use Rattle.group_drive.specs.Row.{row}
+use Rattle.group_words.specs.Row.{row}
 use Rattle.group_machine.specs.Held.{Together}
 use Rattle.group_machine.proofs.Taking.{together-none, together-on}
 use Rattle.group_machine.proofs.together.Statement.{statement}

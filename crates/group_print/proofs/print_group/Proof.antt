@@ -10,7 +10,8 @@ use Rattle.memory.specs.Memories.{contents}
 use Rattle.launch_files.specs.LaunchFiles.{kernelBytes}
 use Rattle.launch_files.proofs.Laws.{words-of-length}
 use Rattle.text.proofs.Laws.{puts-as}
-use Rattle.group_print.specs.GroupPrint.{codeLine, groupFilesOk, launchedLines}
+use Rattle.lines.specs.Lines.{codeLine}
+use Rattle.group_print.specs.GroupPrint.{groupFilesOk, launchedLines}
 use Rattle.group_print.proofs.Laws.{counted, prefix-long, too-many, too-large, files-taken, kernel-fits}
 use Rattle.group_print.proofs.print_group.Statement.{statement}
 use Rattle.group_print.proofs.print_group.Tie as tie

@@ -6,7 +6,7 @@ use lib.ListN.{length, take, drop, length-drop}
 use lib.Seq.{length-take-le}
 use mathlib.Core.List.{List}
 use borrow.Author.Needs.{needs}
-use Rattle.group_drive.specs.Row.{row}
+use Rattle.group_words.specs.Row.{row}
 use Rattle.group_state.specs.Got.{Got}
 use Rattle.group_state.proofs.Joined.{got-none, got-more}
 use Rattle.group_state.proofs.get_all.Statement.{statement}

@@ -6,7 +6,7 @@ use native.Mathlib.Omega.{arith}
 use lib.ListN.{length, set, take, drop, length-drop, length-set}
 use lib.Seq.{length-take-le}
 use borrow.Author.Needs.{needs}
-use Rattle.group_drive.specs.Row.{row}
+use Rattle.group_words.specs.Row.{row}
 use Rattle.group_state.specs.Got.{putAt}
 use Rattle.group_state.proofs.Joined.{Putting, put-none, put-more, put-all, length-part}
 use Rattle.group_state.proofs.put_all.Statement.{statement}

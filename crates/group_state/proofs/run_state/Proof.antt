@@ -4,8 +4,9 @@ use Prim.Native.Nat.{ℕ}
 use native.Mathlib.Omega.{arith}
 use borrow.Author.Needs.{needs}
 use Rattle.memory.specs.Memories.{contents}
-use Rattle.group_drive.specs.Row.{Row, row}
-use Rattle.group_state.specs.GroupState.{joined, groupCalled}
+use Rattle.group_words.specs.Row.{Row, row}
+use Rattle.group_words.specs.StateWords.{joined}
+use Rattle.group_state.specs.GroupState.{groupCalled}
 use Rattle.group_state.specs.Got.{putAt}
 use Rattle.group_state.proofs.Calls.{state-long, state-some, state-few, rooms-are, turn-is, call-at}
 use Rattle.group_state.proofs.run_state.Statement.{statement}
