@@ -1,6 +1,6 @@
 #!/bin/sh
-# The last part of ./check: runs ./bench on every folder of examples/ and crates/test_bench/data/, ./group on those with a cards.bin, and compares what
-# is printed with the folder's expected.txt, ./mark and ./sheet on the class of sheets, and each on wrong arguments.
+# The last part of ./check: runs ./bench on every folder of examples/ and crates/test_bench/data/, ./group on the examples of groups and on those of
+# crates/run_group/cases/, and compares what is printed with the folder's expected.txt, ./mark and ./sheet on the class of sheets, and each on wrong arguments.
 set -u
 cd "$(dirname "$0")/.." || exit 2
 same=0 wrong=0
@@ -29,10 +29,10 @@ expect() {
     compare "$name" "$("$@" 2>&1; echo "status $?")" "$(cat "$file"; echo "status $status")"
 }
 
-for expected in examples/*/expected.txt crates/test_bench/data/*/expected.txt; do
+for expected in examples/*/expected.txt crates/test_bench/data/*/expected.txt crates/run_group/cases/*/expected.txt; do
     folder=$(dirname "$expected")
     program=./bench
-    [ ! -f "$folder/cards.bin" ] || program=./group
+    case $folder in examples/group_* | crates/run_group/*) program=./group ;; esac
     expect "$folder" "$expected" 0 "$program" "$folder"
 done
 

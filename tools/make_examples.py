@@ -1,8 +1,9 @@
 #!/usr/bin/env python3
 """Makes the example folders examples/NAME and the case folders crates/test_bench/data/NAME, each with
-card.bin, kernel.bin, data.bin and expected.txt, the folders of groups examples/group_NAME, with cards.bin, kernel.bin,
-data.bin, local.bin and expected.txt, the sheets of examples/class with what ./mark and ./sheet print of them, and the
-stdout of crates/bench, crates/run_group, crates/test_bench, crates/mark and crates/model_sheet.
+card.bin, kernel.bin, data.bin and expected.txt, the folders of groups examples/group_NAME and the case folders
+crates/run_group/cases/NAME, with cards.bin, kernel.bin, data.bin, local.bin and expected.txt, the sheets of
+examples/class with what ./mark and ./sheet print of them, and the stdout of crates/bench, crates/run_group,
+crates/test_bench, crates/mark and crates/model_sheet.
 
 The kernels are written as text and encoded by tools/case_files.py. The expected printout, the model sheet and the
 marks are made by the plain Rust reference, never by the proved programs; the columns of a step are read from the
@@ -20,9 +21,9 @@ CODE, DATA, LOCAL = 0x80000000, 0x10000000, 0x20000000
 card = functools.partial(case_files.card, code=CODE, data=DATA)
 
 
-def cards(warps):
+def cards(warps, lds=LOCAL):
     """a group's, of four lanes each"""
-    return b''.join(card(numw=warps, wid=wid, lds=LOCAL) for wid in range(warps))
+    return b''.join(card(numw=warps, wid=wid, lds=lds) for wid in range(warps))
 
 
 def kernel(*texts):
@@ -197,6 +198,26 @@ CASES = {
     'larger-data': (card(), END, bytes(70000)),
 }
 
+# wrong, missing and oversized files of a group, and the most warps that it has
+GROUP_CASES = {
+    'no-files': (None, None, None, None),
+    'no-cards': (None, END, None, None),
+    'part-of-a-card': (cards(2)[:99], END, None, None),
+    'later-card-first': (cards(2)[50:] + cards(2)[:50], END, None, None),
+    'later-card-version': (cards(2)[:50] + card(numw=2, wid=1, version=2), END, None, None),
+    'card-before-kernel': (cards(2)[:99], END + b'\0', None, None),
+    'warps-of-two-groups': (cards(2)[:50] + cards(2, LOCAL + 64)[50:], END, None, None),
+    'overlap': (cards(2, DATA + 12), END, bytes(13), bytes(4)),
+    'side-by-side': (cards(2, DATA + 12), END, bytes(12), bytes(4)),
+    'odd-kernel': (cards(2), END + b'\0', None, None),
+    'long-kernel': (cards(2), END * 16385, None, None),
+    'large-data': (cards(2), END, bytes(65537), None),
+    'large-local': (cards(2), END, None, bytes(65537)),
+    'full-memories': (cards(2), END, bytes(65536), bytes(65536)),
+    'warps-32': (cards(32), GROUP_ENDED, None, None),
+    'warps-33': (cards(33), END, None, None),
+}
+
 NAMES = ('card.bin', 'kernel.bin', 'data.bin')
 GROUP_NAMES = ('cards.bin', 'kernel.bin', 'data.bin', 'local.bin')
 
@@ -309,10 +330,11 @@ def contents(reference):
     for parent, cases in (('examples', EXAMPLES), ('crates/test_bench/data', CASES)):
         folders |= {'%s/%s' % (parent, name): files for name, files in cases.items()}
         made |= {'%s/%s/expected.txt' % (parent, name): printed[name] for name in cases}
-    groups = {name: group_printout(files, reference) for name, files in GROUPS.items()}
-    made |= {'examples/%s/expected.txt' % name: lines for name, lines in groups.items()} | {'crates/run_group/stdout': groups['group_sum']}
+    groups = {'examples/' + name: files for name, files in GROUPS.items()} | {'crates/run_group/cases/' + name: files for name, files in GROUP_CASES.items()}
+    made |= {folder + '/expected.txt': group_printout(files, reference) for folder, files in groups.items()}
+    made |= {'crates/run_group/stdout': made['examples/group_sum/expected.txt']}
     named = [(folder, zip(NAMES, files)) for folder, files in folders.items()]
-    named += [('examples/' + name, zip(GROUP_NAMES, files)) for name, files in GROUPS.items()]
+    named += [(folder, zip(GROUP_NAMES, files)) for folder, files in groups.items()]
     named += [('crates/run_group/data', zip(GROUP_NAMES, GROUPS['group_sum']))]
     for folder, files in named:
         made |= {'%s/%s' % (folder, file): content for file, content in files if content is not None}
