@@ -1,21 +1,21 @@
 -- When a group's calls are refused, in the order tested.
 use Prim.Native.Nat.{ℕ, zero, suc}
 use mathlib.Core.Bool.{Bool, true, not, _&&_, _||_}
-use mathlib.Core.List.{List, [], _∷_, map}
+use mathlib.Core.List.{List, [], _∷_, map, _++_}
 use lib.Dec.{eqb, ltb}
 use lib.ListN.{length, getD}
 use Rattle.answer.specs.Rows.{Row, _⇒_, every, between}
 use Rattle.memory.specs.Memories.{Contents}
 use Rattle.warp.specs.declared.Fixed.{Fixed}
 use Rattle.warp.specs.declared.Launch.{Launch}
-use Rattle.warp.specs.Warp.{zeroFixed, zeroLaunch}
+use Rattle.warp.specs.Warp.{maxWarps, zeroFixed, zeroLaunch}
 use Rattle.warp.specs.WellFormed.{launchOkOf, wellFormedOf}
 use Rattle.definition.specs.Refuse.{runsOkOf}
 use Rattle.group.specs.Group.{Group, countOf, warpAt, fixedsOf, fileStart, fileAt, someRuns, allEnded}
 
 -- the most warps of a group
 abbrev pub warpsLimit : ℕ
-warpsLimit = 32
+warpsLimit = maxWarps
 
 -- p holds of every number below n
 unfoldable pub allBelow : ℕ → (ℕ → Bool) → Bool
@@ -63,7 +63,7 @@ groupTests k m = 1 ⇒ not (sizesOkOf k (fixedsOf m) (m .vector) (m .bytes)) ∷
 
 -- a step, before its warp's own tests
 abbrev pub groupStepTests : List ℕ → Group → List (Row Bool)
-groupStepTests k m = 1 ⇒ not (sizesOkOf k (fixedsOf m) (m .vector) (m .bytes)) ∷ 2 ⇒ not (formedOf m) ∷ 3 ⇒ allEnded (m .warps) ∷ []
+groupStepTests k m = groupTests k m ++ (3 ⇒ allEnded (m .warps) ∷ [])
 
 -- a launch of the launches ls
 abbrev pub groupLaunchTests : List ℕ → List Launch → List ℕ → Contents → List (Row Bool)

@@ -31,8 +31,8 @@ use Rattle.group.proofs.GroupLaws.{by-test, by-equal, below-at, below-all}
 use Rattle.group.proofs.GroupFacts.{GroupSizes, group-sizes}
 use Rattle.group_words.specs.Row.{wordsAt, tabulate, fixedsIn}
 use Rattle.group_words.proofs.Tabulate.{tab-length, tab-at, tab-same, tab-map}
-use Rattle.group_launch.specs.GroupLaunchCall.{cardsIn, cardAt, readingAt, noneIs, launchesOf, groupWords, isGroupState, groupLaunchCalled, cardsLaunchOf, groupLaunchNumber, groupBlankOf, groupLaunchCallOf}
-use Rattle.group_words.specs.StateWords.{joined, stateWordsOf}
+use Rattle.group_launch.specs.GroupLaunchCall.{cardsIn, cardAt, readingAt, noneIs, launchesOf, isGroupState, groupLaunchCalled, cardsLaunchOf, groupLaunchNumber, groupBlankOf, groupLaunchCallOf}
+use Rattle.group_words.specs.StateWords.{joined, stateWordsOf, groupWords}
 use Rattle.group_words.proofs.StateWords.{joined-same}
 
 -- ---- a state of n warps

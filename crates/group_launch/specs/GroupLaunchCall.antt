@@ -7,12 +7,11 @@ use lib.ListN.{length, take, drop, replicate}
 use Rattle.answer.specs.Rows.{_⇒_, first}
 use Rattle.memory.specs.Memories.{Contents}
 use Rattle.warp.specs.declared.Launch.{Launch}
-use Rattle.layout.specs.Words.{stateWords}
 use Rattle.card.specs.Card.{cardSize, Reading, readCardOf}
 use Rattle.group.specs.GroupRefuse.{allBelow}
 use Rattle.group.specs.GroupCalls.{GroupOutcome, groupLaunchOf}
 use Rattle.group_words.specs.Row.{tabulate}
-use Rattle.group_words.specs.StateWords.{stateWordsOf}
+use Rattle.group_words.specs.StateWords.{groupWords, stateWordsOf}
 
 -- ---- cards
 
@@ -35,10 +34,6 @@ abbrev pub launchesOf : ℕ → List ℕ → List Launch
 launchesOf n cs = tabulate n (λ i. readingAt cs i .launch)
 
 -- ---- a group's state
-
--- the words of a state of n warps
-abbrev pub groupWords : ℕ → ℕ
-groupWords n = 1 + n * stateWords
 
 abbrev pub isGroupState : ℕ → List ℕ → Bool
 isGroupState n s = eqb (length s) (groupWords n)

@@ -14,8 +14,8 @@ ghost use Rattle.definition.specs.Calls.{launchedOf};
 ghost use Rattle.card.specs.Card.{cardSize, readingOf};
 ghost use Rattle.group.specs.GroupRefuse.{warpsLimit, sizesOkOf, placedOf};
 ghost use Rattle.group_words.specs.Row.{tabulate, fixedsIn};
-ghost use Rattle.group_launch.specs.GroupLaunchCall.{readingAt, noneIs, groupWords, isGroupState, groupBlankOf, groupLaunchCalled, groupLaunchNumber, groupLaunchCallOf};
-ghost use Rattle.group_words.specs.StateWords.{joined};
+ghost use Rattle.group_launch.specs.GroupLaunchCall.{readingAt, noneIs, isGroupState, groupBlankOf, groupLaunchCalled, groupLaunchNumber, groupLaunchCallOf};
+ghost use Rattle.group_words.specs.StateWords.{joined, groupWords};
 
 // The bytes of a card.
 const CARD: usize = 50;

@@ -12,13 +12,15 @@ use borrow.Author.Tests.{le-leb, lt-leb, lt-ltb, le-ltb, ltb-true, ltb-false}
 use Rattle.memory.specs.Memories.{Contents}
 use Rattle.warp.specs.declared.Warp.{Warp}
 use Rattle.warp.specs.Warp.{zeroWarp}
-use Rattle.group.specs.Group.{group}
-use Rattle.group.specs.GroupRefuse.{warpsLimit}
+use Rattle.group.specs.Group.{group, fixedsOf}
+use Rattle.group.specs.GroupRefuse.{warpsLimit, sizesOkOf}
 use Rattle.group.specs.GroupCalls.{GroupOutcome, groupOutcome, groupStepOf}
 use Rattle.group.proofs.GroupLaws.{by-test}
+use Rattle.group.proofs.GroupFacts.{group-sizes, count-fixeds}
+use Rattle.group.proofs.GroupCases.{group-step-size}
 use Rattle.group_machine.specs.Held.{noWarp, held, heldStepOf, Kept}
 use Rattle.group_machine.specs.declared.Group.{Group}
-use Rattle.group_row.specs.Row.{roomOf, heldOf, overlaid, rowStepOf}
+use Rattle.group_row.specs.Row.{roomOf, heldOf, overlaid}
 
 -- ---- room
 
@@ -59,10 +61,16 @@ no-warps = length-replicate {A = Warp} warpsLimit zeroWarp
 abbrev pub gathered : List Warp → ℕ → Group
 gathered ys t = heldOf (overlaid (roomOf (length ys)) ys noWarps) (length ys) t
 
+-- a group has no more than 32 warps
+too-many : (k : List ℕ) (t : ℕ) (ys : List Warp) (v : List ℕ) (c : Contents) → warpsLimit < length ys → sizesOkOf k (fixedsOf (group t ys v c)) v c ≡ false
+too-many k t ys v c h =
+    by-test (sizesOkOf k (fixedsOf (group t ys v c)) v c)
+    (λ e. absurd (let m = group-sizes k (fixedsOf (group t ys v c)) v c e .most in let n = count-fixeds (group t ys v c) in omega (arith, m, n, h))) (λ e. e)
+
 module _ (k : List ℕ) (t : ℕ) (ys : List Warp) (v : List ℕ) (c : Contents) (u : Group) (kept : Kept (gathered ys t) u) (full : length (gathered ys t .warps) ≡ warpsLimit)
     (code stopped : ℕ) (v' : List ℕ) (c' : Contents) (e : groupOutcome code stopped (held u v' c') ≡ heldStepOf k (gathered ys t) v c) (zs : List Warp) (back : zs ≡ overlaid (roomOf (length ys)) (u .warps) ys) where
-  few : length ys ≤ warpsLimit → groupOutcome code stopped (group (u .turn) zs v' c') ≡ rowStepOf k t ys v c
-  unfolding rowStepOf heldStepOf
+  few : length ys ≤ warpsLimit → groupOutcome code stopped (group (u .turn) zs v' c') ≡ groupStepOf k (group t ys v c)
+  unfolding heldStepOf
   few h =
       let r : roomOf (length ys) ≡ length ys = room-few (length ys) h in
       let z : zs ≡ take (u .count) (u .warps) = back ∙ ap (λ (m : ℕ). overlaid m (u .warps) ys) r ∙ ap (λ (l : List Warp). take (length ys) (u .warps) ++ l) (drop-of-length-le ys {i = length ys} (omega arith)) ∙ append-nil (take (length ys) (u .warps)) ∙ ap (λ (m : ℕ). take m (u .warps)) (sym (kept .count)) in
@@ -71,8 +79,8 @@ module _ (k : List ℕ) (t : ℕ) (ys : List Warp) (v : List ℕ) (c : Contents)
       ∙ e
       ∙ rw (le-leb _ _ h) (ap (λ (l : List Warp). groupStepOf k (group t l v c)) w)
 
-  many : warpsLimit < length ys → groupOutcome code stopped (group (u .turn) zs v' c') ≡ rowStepOf k t ys v c
-  unfolding rowStepOf heldStepOf
+  many : warpsLimit < length ys → groupOutcome code stopped (group (u .turn) zs v' c') ≡ groupStepOf k (group t ys v c)
+  unfolding heldStepOf
   many h =
       let r : roomOf (length ys) ≡ warpsLimit = room-many (length ys) h in
       let o : groupOutcome code stopped (held u v' c') ≡ groupOutcome 1 0 (held (gathered ys t) v c) = rw (lt-leb _ _ h) at e in
@@ -84,9 +92,10 @@ module _ (k : List ℕ) (t : ℕ) (ys : List Warp) (v : List ℕ) (c : Contents)
       let z : zs ≡ ys =
       back ∙ ap (λ (m : ℕ). overlaid m (u .warps) ys) r ∙ ap (λ (l : List Warp). take warpsLimit l ++ drop warpsLimit ys) (w ∙ x) ∙ ap (λ (l : List Warp). l ++ drop warpsLimit ys) (take-take warpsLimit warpsLimit ys (omega arith)) ∙ take-append-drop warpsLimit ys in
       ap (λ (y : GroupOutcome). groupOutcome (y .code) (y .stopped) (group (y .left .turn) zs (y .left .vector) (y .left .bytes))) o
-      ∙ rw (lt-leb _ _ h) (ap (λ (l : List Warp). groupOutcome 1 0 (group t l v c)) z)
+      ∙ ap (λ (l : List Warp). groupOutcome 1 0 (group t l v c)) z
+      ∙ sym (group-step-size k (group t ys v c) (too-many k t ys v c h))
 
-  pub row-steps : (turn : ℕ) → turn ≡ u .turn → groupOutcome code stopped (group turn zs v' c') ≡ rowStepOf k t ys v c
+  pub row-steps : (turn : ℕ) → turn ≡ u .turn → groupOutcome code stopped (group turn zs v' c') ≡ groupStepOf k (group t ys v c)
   row-steps turn q =
       ap (λ (m : ℕ). groupOutcome code stopped (group m zs v' c')) q
       ∙ by-test (ltb warpsLimit (length ys)) (λ b. many (ltb-true warpsLimit (length ys) b)) (λ b. few (ltb-false warpsLimit (length ys) b))

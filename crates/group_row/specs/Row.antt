@@ -1,21 +1,12 @@
--- A group over a lent run of warps: all of them are the group's.
+-- A lent run of warps, and the group by value that it is copied into.
 use Prim.Native.Nat.{ℕ}
 use mathlib.Core.Bool.{cond}
 use mathlib.Core.List.{List, _++_}
-use lib.Dec.{leb, ltb}
-use lib.ListN.{length, take, drop}
-use Rattle.memory.specs.Memories.{Contents}
+use lib.Dec.{ltb}
+use lib.ListN.{take, drop}
 use Rattle.warp.specs.declared.Warp.{Warp}
-use Rattle.group.specs.Group.{group}
 use Rattle.group.specs.GroupRefuse.{warpsLimit}
-use Rattle.group.specs.GroupCalls.{GroupOutcome, groupOutcome, groupStepOf}
 use Rattle.group_machine.specs.declared.Group.{Group}
-
--- the definition's step of the group that the run is; a run of more than 32 warps is refused
-unfoldable pub rowStepOf : List ℕ → ℕ → List Warp → List ℕ → Contents → GroupOutcome
-rowStepOf k t ws v c = cond (leb (length ws) warpsLimit) (groupStepOf k (group t ws v c)) (groupOutcome 1 0 (group t ws v c))
-
--- ---- the group by value
 
 -- how many of n warps a group has room for
 abbrev pub roomOf : ℕ → ℕ

@@ -9,9 +9,9 @@ ghost use Rattle.memory.specs.Memories.{contents};
 ghost use Rattle.warp.specs.Warp.{zeroWarp};
 ghost use Rattle.group.specs.Group.{group};
 ghost use Rattle.group.specs.GroupRefuse.{warpsLimit};
-ghost use Rattle.group.specs.GroupCalls.{groupOutcome};
+ghost use Rattle.group.specs.GroupCalls.{groupOutcome, groupStepOf};
 ghost use Rattle.group_machine.specs.Held.{noWarp, held, heldStepOf, Kept};
-ghost use Rattle.group_row.specs.Row.{roomOf, heldOf, overlaid, rowStepOf};
+ghost use Rattle.group_row.specs.Row.{roomOf, heldOf, overlaid};
 
 // How a step ended: its number, the warp that stopped the group, and the turn.
 #[repr(C)]
@@ -130,7 +130,7 @@ pub extern "C" fn bench_step_warps(
     bytes: &mut [u8],
     local: &mut [u8],
 ) -> Stepped
-    ensures { λ r. ⌜ groupOutcome (r .code) (r .stopped) (group (r .turn) (now (ws .exit)) (now (vector .exit)) (contents (now (bytes .exit)) (now (local .exit)))) ≡ rowStepOf (now (kernel .entry)) turn (now (ws .entry)) (now (vector .entry)) (contents (now (bytes .entry)) (now (local .entry))) ⌝ }
+    ensures { λ r. ⌜ groupOutcome (r .code) (r .stopped) (group (r .turn) (now (ws .exit)) (now (vector .exit)) (contents (now (bytes .exit)) (now (local .exit)))) ≡ groupStepOf (now (kernel .entry)) (group turn (now (ws .entry)) (now (vector .entry)) (contents (now (bytes .entry)) (now (local .entry)))) ⌝ }
 {
     let g = gather(ws, turn);
     let s = step(g, kernel, vector, bytes, local);

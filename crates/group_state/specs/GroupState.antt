@@ -12,7 +12,7 @@ use Rattle.group.specs.Group.{Group, group, fixedsOf}
 use Rattle.group.specs.GroupRefuse.{warpsLimit, allBelow, sizesOkOf}
 use Rattle.group.specs.GroupCalls.{GroupOutcome, groupStepOf, GroupRan, groupRunOf}
 use Rattle.group_words.specs.Row.{tabulate}
-use Rattle.group_words.specs.StateWords.{stateWordsOf}
+use Rattle.group_words.specs.StateWords.{groupWords, stateWordsOf}
 
 -- ---- what words stand for: how many warps a state has room for, and whether it is a group's of 1 to 32 warps
 
@@ -20,7 +20,7 @@ abbrev pub countIn : List ℕ → ℕ
 countIn s = (length s - 1) / stateWords
 
 abbrev pub isGroup : List ℕ → Bool
-isGroup s = eqb (length s) (1 + countIn s * stateWords) && between 1 (countIn s) warpsLimit
+isGroup s = eqb (length s) (groupWords (countIn s)) && between 1 (countIn s) warpsLimit
 
 -- warp i's words
 abbrev pub wordsIn : ℕ → List ℕ → List ℕ

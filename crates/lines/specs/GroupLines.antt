@@ -1,10 +1,9 @@
 -- The lines of a group's printout: four, and a line a warp.
 use Prim.Native.Nat.{ℕ, zero, suc, _+_, _*_}
-use mathlib.Core.Bool.{Bool, cond, _||_}
+use mathlib.Core.Bool.{Bool, cond}
 use mathlib.Core.List.{List, [], _∷_, _++_}
-use lib.Dec.{eqb}
+use lib.Dec.{ltb}
 use lib.ListN.{getD}
-use Rattle.answer.specs.Rows.{between}
 use Rattle.layout.specs.Words.{stateWords, movingStart, depthAt, pcAt, maskAt, endedAt, waitingAt, isSet}
 use Rattle.text.specs.Text.{hexOf, decimalOf, lineOf}
 use Rattle.lines.specs.Lines.{stepsName, pcName, maskName, splitsName, codeLine}
@@ -45,9 +44,9 @@ spaced name = 32 ∷ name
 
 -- ---- the lines
 
--- the numbers with which a warp stops its group
+-- the numbers with which a warp stops its group: 1 to 3 are the group's own
 unfoldable pub stopsOf : ℕ → Bool
-stopsOf code = between 5 code 11 || eqb code 14
+stopsOf code = ltb 3 code
 
 unfoldable pub stoppedLine : ℕ → ℕ → List ℕ
 stoppedLine code wid = cond (stopsOf code) (lineOf stoppedName (decimalOf wid)) noneLine

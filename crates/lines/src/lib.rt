@@ -114,7 +114,7 @@ fn put_warps(out: &mut [u8], at: usize, state: &[u32], n: usize) -> usize
 fn stops(code: u32) -> bool
     ensures { λ r. ⌜ r ≡ stopsOf code ⌝ }
 {
-    ((5 <= code) & (code <= 11)) | (code == 14)
+    3 < code
 }
 
 fn put_stopped(out: &mut [u8], at: usize, code: u32, wid: u32) -> usize
