@@ -17,11 +17,10 @@ pub struct Drove {
     pub steps: u32,
 }
 
-// At most n steps on the lent words: the one loop over steps; a single step is a run with a budget of 1. The fixed and the moving words are
-// copied into it, so that they stay in registers whoever calls (docs/SPEED.md).
+// At most n steps on the lent words: the one loop over steps; a single step is a run with a budget of 1.
 pub fn drive(
-    moving: &mut [u32; MOVING],
-    fixed: &[u32; FIXED],
+    h: &mut [u32; MOVING],
+    g: &[u32; FIXED],
     x: &mut [u32; SCALARS],
     s: &mut [u32; FLAT],
     kernel: &[u32],
@@ -30,28 +29,26 @@ pub fn drive(
     local: &mut [u8],
     n: u32,
 ) -> Drove
-    requires { ⌜ Started (now kernel) (lists (now fixed) (now moving) (now x) (now s) (now vector) (contents (now bytes) (now local))) ⌝ }
-    ensures { λ r. ⌜ Drives (now (kernel .entry)) n (r .code) (r .steps) (lists (now (fixed .entry)) (now (moving .entry)) (now (x .entry)) (now (s .entry)) (now (vector .entry)) (contents (now (bytes .entry)) (now (local .entry)))) (lists (now (fixed .entry)) (now (moving .exit)) (now (x .exit)) (now (s .exit)) (now (vector .exit)) (contents (now (bytes .exit)) (now (local .exit)))) ⌝ }
+    requires { ⌜ Started (now kernel) (lists (now g) (now h) (now x) (now s) (now vector) (contents (now bytes) (now local))) ⌝ }
+    ensures { λ r. ⌜ Drives (now (kernel .entry)) n (r .code) (r .steps) (lists (now (g .entry)) (now (h .entry)) (now (x .entry)) (now (s .entry)) (now (vector .entry)) (contents (now (bytes .entry)) (now (local .entry)))) (lists (now (g .entry)) (now (h .exit)) (now (x .exit)) (now (s .exit)) (now (vector .exit)) (contents (now (bytes .exit)) (now (local .exit)))) ⌝ }
 {
-    let g = *fixed;
-    let mut h = *moving;
     let mut t: u32 = 0;
     let mut code: u32 = 0;
     while t < n {
-        code = exec::step(&mut h, &g, x, s, kernel, vector, bytes, local);
+        code = exec::step(h, g, x, s, kernel, vector, bytes, local);
         if code != 0 {
             break;
         }
         t += 1;
     }
-    *moving = h;
     Drove {
         code: code,
         steps: t,
     }
 }
 
-// A run on a warp's words: its tests, and at most n steps.
+// A run on a warp's words: its tests, and at most n steps. The fixed and the moving words are copied for them, so that they stay in registers
+// over many steps whoever calls (docs/SPEED.md).
 pub fn run_words(
     h: &mut [u32; MOVING],
     g: &[u32; FIXED],
@@ -78,5 +75,9 @@ pub fn run_words(
             steps: 0,
         };
     }
-    drive(h, g, x, s, kernel, vector, bytes, local, n)
+    let fixed = *g;
+    let mut moving = *h;
+    let end = drive(&mut moving, &fixed, x, s, kernel, vector, bytes, local, n);
+    *h = moving;
+    end
 }

@@ -6,7 +6,7 @@ use mathlib.Core.List.{List, [], _∷_}
 use lib.Dec.{eqb}
 use lib.ListN.{length}
 use borrow.Author.Tests.{eq-eqb, ne-eqb, eqb-true}
-use Rattle.answer.specs.Rows.{Row, _⇒_, first, oneOf}
+use Rattle.answer.specs.Rows.{_⇒_, first, oneOf}
 use Rattle.memory.specs.Memories.{Contents}
 use Rattle.answer.proofs.Rows.{passed}
 use Rattle.group.specs.Group.{Group, fixedsOf}

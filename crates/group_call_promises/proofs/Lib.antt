@@ -1,1 +1,4 @@
 pub mod GroupCalls
+pub mod WarpCalls
+pub mod Back
+pub mod Reaches

@@ -1,1 +1,3 @@
 pub mod GroupCalls
+pub mod WarpCalls
+pub mod Reaches

@@ -243,7 +243,7 @@ module _ (cs k v : List ℕ) (c : Contents) (s : List ℕ) where
         number-own t m e = rw (eq-eqb _ _ r, a, b, t, e) (by-test (eqb m 0) (λ z. rw z (eqb-true _ _ z)) (λ z. rw z))
 
   -- what the number 0 says
-  number-none : 0 ≡ groupLaunchNumber cs k v c s → (isGroupState N s ≡ true) × (cardsLaunchOf cs k v c .code ≡ 0)
+  pub number-none : 0 ≡ groupLaunchNumber cs k v c s → (isGroupState N s ≡ true) × (cardsLaunchOf cs k v c .code ≡ 0)
   unfolding groupLaunchNumber
   number-none z = go (eqb (length cs % cardSize) 0) (noneIs 13 N cs) (noneIs 1 N cs) (isGroupState N s) (cardsLaunchOf cs k v c .code) (sym z)
     where

@@ -2,6 +2,8 @@ pub mod Steps
 pub mod Refusals
 pub mod Goes
 pub mod Reached
+pub mod Splits
+pub mod Lanes
 pub mod Runs
 pub mod Fair
 pub mod Barrier

@@ -17,15 +17,14 @@ use Rattle.definition.proofs.Calls.{launch-done}
 use Rattle.promises.specs.Reached as single
 use Rattle.promises.specs.Reached.{Reached, Sound}
 use Rattle.promises.proofs.Reached.{fit, reached-sound}
-use Rattle.promises.proofs.Splits.{covered, fewer, split-cuts}
 use Rattle.group.specs.Group.{Group, group, countOf, fixedsOf, fileStart, fileAt, stateAt, someRuns}
 use Rattle.group.specs.GroupRefuse.{allBelow, sizesOkOf, placedOf}
 use Rattle.group.specs.GroupCalls.{GroupOutcome, groupLaunchOf}
 use Rattle.group.proofs.GroupLaws.{below-at, getD-map-in, file-zeros, some-runs}
 use Rattle.group.proofs.GroupFacts.{GroupSizes, group-sizes, fit-sizes, fit-formed, goes-on}
-use Rattle.group_promises.specs.Reached.{GroupReached, launched, goes, launchAt, WarpReached, GroupReachedSound, GroupCovered, GroupFewer, GroupSplitCuts}
+use Rattle.group_promises.specs.Reached.{GroupReached, launched, goes, launchAt, WarpReached, GroupReachedSound}
 use Rattle.group_promises.proofs.Refusals.{group-launch-refusals}
-use Rattle.group_promises.proofs.Goes.{Fits, warp-fit, Onward, onward, onward-fits, path-reached}
+use Rattle.group_promises.proofs.Goes.{Fits, warp-fit, Onward, onward, onward-fits, hop-reached}
 
 -- the group, with each warp reached
 record Sure (k : List ℕ) (ls : List Launch) (m : Group) : Type 0 where
@@ -113,7 +112,7 @@ sure k ls m (goes {m = b} r e) =
       fits = onward-fits k b m (s .fits) o;
       fixed = o .fixeds ∙ s .fixed;
       count = o .count ∙ s .count;
-      reached = λ i h. let l : i < countOf b = omega (arith, o .count) in path-reached k (launchAt i ls) (stateAt i b) (stateAt i m) (s .reached i l) (o .path i l (warp-fit k b (s .fits) i l));
+      reached = λ i h. let l : i < countOf b = omega (arith, o .count) in hop-reached k (launchAt i ls) (stateAt i b) (stateAt i m) (warp-fit k b (s .fits) i l) (s .reached i l) (o .hops i l);
     }
 
 -- ---- promises
@@ -128,12 +127,3 @@ pub group-reached-sound : GroupReachedSound
 group-reached-sound k ls m r =
     let s : Sure k ls m = sure k ls m r in
     record { sizes = fit-sizes k m (s .fits .fit); formed = fit-formed k m (s .fits .fit); count = s .count; fixed = s .fixed; splits = s .fits .splits }
-
-pub group-covered : GroupCovered
-group-covered k ls m i r h = covered k (launchAt i ls) (stateAt i m) (warp-reached k ls m i r h)
-
-pub group-fewer : GroupFewer
-group-fewer k ls m i r h = fewer k (launchAt i ls) (stateAt i m) (warp-reached k ls m i r h)
-
-pub group-split-cuts : GroupSplitCuts
-group-split-cuts k ls m i t r h = split-cuts k (launchAt i ls) (stateAt i m) t (warp-reached k ls m i r h)

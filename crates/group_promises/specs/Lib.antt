@@ -1,5 +1,7 @@
 pub mod Steps
 pub mod Reached
+pub mod Splits
+pub mod Lanes
 pub mod Refusals
 pub mod Runs
 pub mod Fair

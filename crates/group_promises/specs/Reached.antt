@@ -1,21 +1,14 @@
 -- What a group reaches: an accepted launch, and then any number of taken group steps and changes by the host, over any kernel and any memories. Each of its warps reaches what
 -- a single warp does, so that every promise over a single warp's reached states holds of it.
-use Prim.Native.Nat.{ℕ, _+_, _<_}
+use Prim.Native.Nat.{ℕ, _<_}
 use mathlib.Core.Path.{_≡_}
 use mathlib.Core.Bool.{true}
 use mathlib.Core.List.{List, map}
-use lib.Count.{ones}
 use lib.ListN.{length, getD}
-use Rattle.lanes.specs.declared.Lane.{Lane}
-use Rattle.lanes.specs.Mask.{bitAt}
 use Rattle.memory.specs.Memories.{Region, Contents, bytesAt}
 use Rattle.warp.specs.declared.Launch.{Launch}
 use Rattle.warp.specs.Warp.{splitCount, zeroLaunch}
-use Rattle.warp.specs.Parked.{parkedIn}
-use Rattle.definition.specs.State.{State, outcome}
-use Rattle.definition.specs.Step.{stepOf}
 use Rattle.promises.specs.Reached.{Reached}
-use Rattle.promises.specs.Splits.{Opens}
 use Rattle.group.specs.Group.{Group, group, countOf, warpAt, fixedsOf, stateAt}
 use Rattle.group.specs.GroupRefuse.{sizesOkOf, formedOf}
 use Rattle.group.specs.GroupCalls.{groupOutcome, groupStepOf, groupRunOf, groupLaunchOf}
@@ -60,21 +53,3 @@ pub record GroupAccepted (k : List ℕ) (m : Group) : Type 0 where
 
 abbrev pub GroupNeverMalformed : Type 0
 GroupNeverMalformed = (k : List ℕ) (ls : List Launch) (m : Group) → GroupReached k ls m → GroupAccepted k m
-
--- ---- the splits of a group's warps (Splits.antt of promises)
-
--- Each launched lane of a warp is active or parked in just one open split, and no other lane is either.
-abbrev pub GroupCovered : Type 0
-GroupCovered =
-    (k : List ℕ) (ls : List Launch) (m : Group) (i : ℕ) → GroupReached k ls m → i < countOf m
-    → (l : Lane) → bitAt (l .0) (warpAt i m .mask) + parkedIn l (warpAt i m .splits) (warpAt i m .depth) ≡ bitAt (l .0) (launchAt i ls .fixed .launchMask)
-
--- Fewer splits of a warp are open than lanes of it were launched.
-abbrev pub GroupFewer : Type 0
-GroupFewer = (k : List ℕ) (ls : List Launch) (m : Group) (i : ℕ) → GroupReached k ls m → i < countOf m → warpAt i m .depth < ones (launchAt i ls .fixed .launchMask)
-
--- A split cuts the warp's active mask in two: wherever the count of its open splits rises over its own step.
-abbrev pub GroupSplitCuts : Type 0
-GroupSplitCuts =
-    (k : List ℕ) (ls : List Launch) (m : Group) (i : ℕ) (t : State) → GroupReached k ls m → i < countOf m → stepOf k (stateAt i m) ≡ outcome 0 t
-    → warpAt i m .depth < t .warp .depth → Opens k (stateAt i m) t

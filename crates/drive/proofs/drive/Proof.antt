@@ -8,26 +8,24 @@ use Rattle.drive.proofs.drive.Statement.{statement}
 use Rattle.drive.proofs.drive.Tie as tie
 
 abbrev Inv-loop : tie.InvT-loop
-Inv-loop h₀ g x₀ s₀ kernel vector₀ bytes₀ local₀ n g₁ h₁ t₁ code₁ x s vector bytes local h t code =
+Inv-loop h₀ g x₀ s₀ kernel vector₀ bytes₀ local₀ n t₀ code₀ h x s vector bytes local t code =
     Going kernel n (lists g h₀ x₀ s₀ vector₀ (contents bytes₀ local₀)) (lists g h x s vector (contents bytes local)) t × (code ≡ 0)
 
 abbrev μ-loop : tie.MeasureT-loop
-μ-loop h₀ g x₀ s₀ kernel vector₀ bytes₀ local₀ n g₁ h₁ t₁ code₁ x s vector bytes local h t code = n - t
+μ-loop h₀ g x₀ s₀ kernel vector₀ bytes₀ local₀ n t₀ code₀ h x s vector bytes local t code = n - t
 
 loop-holds : tie.Need-loop-holds Inv-loop μ-loop
-loop-holds c =
-    let four = c .before .before .before .before in
-    (going-start _ _ _ (four .before .before .pre), refl)
+loop-holds c = (going-start _ _ _ (c .before .before .before .before .pre), refl)
 
 step-requires : tie.Need-step-requires Inv-loop μ-loop
 step-requires c κs =
     let four = c .before .before .before .before in
-    four .before .before .before .before .loop .inv .0 .started
+    four .before .before .before .loop .inv .0 .started
 
 loop-again : tie.Need-loop-again Inv-loop μ-loop
 loop-again c =
     let step = c .before .before .before .before .before .before .before in
-    let loop = step .before .before .before .before .before .before .before .before in
+    let loop = step .before .before .before .before .before .before .before in
     (going-on _ _ _ _ _ (loop .before .loop .inv .0) (loop .loop-test .taken) _ _ (step .step .ensures) (c .if1 .left), c .if1 .left)
 
 ends : tie.Need-returns Inv-loop μ-loop
@@ -39,7 +37,7 @@ step c = c .before .before .before .before .before .before .before
 abbrev loop : tie.Then1 Inv-loop μ-loop → tie.In-loop Inv-loop μ-loop
 loop c =
     let four = step c .before .before .before .before in
-    four .before .before .before .before
+    four .before .before .before
 
 same-length-4 : tie.Need-same-length-4 Inv-loop μ-loop
 same-length-4 c = step-lengths _ _ _ _ _ (loop c .before .loop .inv .0) (loop c .loop-test .taken) _ _ (step c .step .ensures) .0

@@ -32,7 +32,7 @@ returns-2 c =
 
 drive-requires : tie.Need-drive-requires
 drive-requires c κs =
-    let e = c .before .before .before .before .before .before in
+    let e = c .before .before .before .before .before .before .before .before .before in
     let s = e .before .before .before .before .before in
     let l = start (s .before) .pre in
     words-started _ 0 _ (l .0) (l .1) (sized s) (sym (e .before .words-ok .ensures) ∙ not-false _ (e .if2 .left))
@@ -40,7 +40,7 @@ drive-requires c κs =
 returns-3 : tie.Need-returns-3
 returns-3 c =
     let drive = c .before .before .before .before .before .before in
-    let e = drive .before .before .before .before .before .before .before in
+    let e = drive .before .before .before .before .before .before .before .before .before .before in
     let s = e .before .before .before .before .before in
     let l = start (s .before) .pre in
     words-run _ _ _ (l .0) (l .1) (sized s) (sym (e .before .words-ok .ensures) ∙ not-false _ (e .if2 .left)) _ _ _ (drive .drive .ensures)
