@@ -9,4 +9,3 @@ pub mod Fair
 pub mod Barrier
 pub mod OneWarp
 pub mod Determined
-pub mod Worked

@@ -8,4 +8,3 @@ pub mod Fair
 pub mod Barrier
 pub mod OneWarp
 pub mod Determined
-pub mod Worked

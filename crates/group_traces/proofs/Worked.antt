@@ -1,7 +1,7 @@
 -- The worked groups, which antt computes.
 use mathlib.Core.Path.{refl}
 use Rattle.group.proofs.GroupComputes.{group-computes}
-use Rattle.group_promises.specs.Worked.{Worked}
+use Rattle.group_traces.specs.Worked.{Worked}
 
 pub worked : Worked
 unfolding group-computes
