@@ -101,6 +101,21 @@ CROSSING = kernel(
     'vadd.vi v3,v1,10', 'vsw.p v3,0(v2)',
     'endprg')
 
+
+def one_word(change):
+    """each lane reads one word of the data, changes it and stores it there again; v1 is the lane's number"""
+    return kernel(
+        'vid.v v1',
+        'lui x5,0x%x' % (DATA >> 12), 'vmv.v.x v2,x5',  # the same address in every lane
+        'vlw12 v3,0(v2)', change, 'vsw12 v3,0(v2)')
+
+
+# each lane would store another sum
+RACE = one_word('vadd.vv v3,v3,v1') + END
+
+# all lanes store one sum
+AGREE = one_word('vadd.vi v3,v3,5') + counting(7, 7)
+
 # the CSRs that a group's kernels read
 TID, WID, LDS = 'csrrs x5,0x800,x0', 'csrrs x5,0x805,x0', 'csrrs x6,0x806,x0'
 
@@ -149,12 +164,25 @@ GROUP_STOP = kernel(
     'vlw12 v3,0(v2)',
     'barrier', 'endprg')
 
+# each thread reads its word of the data and stores it in the first word of local memory
+GROUP_CLASH = kernel(
+    TID, LDS,
+    'vid.v v1', 'vadd.vx v1,v1,x5',             # the thread's number
+    'vsll.vi v2,v1,2', 'lui x7,0x%x' % (DATA >> 12), 'vadd.vx v2,v2,x7',
+    'vlw12 v3,0(v2)',
+    'vmv.v.x v4,x6', 'vsw12 v3,0(v4)',
+    'endprg')
+
+# the four threads of warp 0 have one word, and so have those of warp 2; thread 6, of warp 1, has another than its warp
+WORDS = (7, 7, 7, 7, 8, 8, 9, 8, 6, 6, 6, 6)
+
 GROUPS = {
     # name: cards, kernel, data, local memory
     'group_sum': (cards(4), group_sum('barrier'), packed(NUMBERS, '<'), bytes(16)),
     'group_race': (cards(4), group_sum('addi x0,x0,0'), packed(NUMBERS, '<'), bytes(16)),
     'group_ended': (cards(3), GROUP_ENDED, b'', b''),
     'group_stop': (cards(3), GROUP_STOP, b'', bytes(4 * 11)),
+    'group_clash': (cards(3), GROUP_CLASH, packed(WORDS, '<'), bytes(4)),
 }
 
 EXAMPLES = {
@@ -169,6 +197,8 @@ EXAMPLES = {
     'crossing': (card(numw=2, wid=1, pds=DATA), CROSSING, bytes(32)),
     'extended': (card(), EXTENDED, bytes(16)),
     'x64': (card(), X64, None),
+    'race': (card(), RACE, packed([2], '<')),
+    'agree': (card(), AGREE, packed([2], '<')),
 }
 
 # the folder of the sheets that ./mark marks

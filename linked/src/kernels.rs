@@ -51,6 +51,8 @@ pub fn subjects() -> Vec<Subject> {
         Subject { mask: SOME_LANES, ..run("partial mask", lanes) },
         run("mix", counted_loop(t, vec![], mix(t), 110)),
         run("prefixed", counted_loop(t, vec![t.fixed("vid.v") | rd(1)], prefixed(t), 8_000)),
+        run("scattered", counted_loop(t, scattered_addresses(t), store_and_add(t, 1), 12_000)),
+        run("one word", counted_loop(t, one_address(t), store_and_add(t, 6), 12_000)),
     ]
 }
 
@@ -180,6 +182,40 @@ fn stores(t: &Table) -> Vec<u32> {
         store("vsb12", 5, 512),
         load("vlb12", 6, 512),
         t.fixed("vadd.vi") | rd(3) | rs2(4) | rs1(1),
+    ]
+}
+
+/// As `lane_addresses`, but lane l has word 13 l mod 32: each its own, in no order.
+fn scattered_addresses(t: &Table) -> Vec<u32> {
+    vec![
+        t.fixed("vid.v") | rd(1),
+        t.fixed("addi") | rd(7) | enc_i(13),
+        t.fixed("vmul.vx") | rd(2) | rs2(1) | rs1(7),
+        t.fixed("addi") | rd(7) | enc_i(31),
+        t.fixed("vand.vx") | rd(2) | rs2(2) | rs1(7),
+        t.fixed("vsll.vi") | rd(2) | rs2(2) | rs1(2),
+        t.fixed("lui") | rd(6) | DATA_BASE,
+        t.fixed("vadd.vx") | rd(2) | rs2(2) | rs1(6),
+    ]
+}
+
+/// v1 holds the lane numbers, v2 the data's beginning in every lane; v6 is 0.
+fn one_address(t: &Table) -> Vec<u32> {
+    vec![
+        t.fixed("vid.v") | rd(1),
+        t.fixed("lui") | rd(6) | DATA_BASE,
+        t.fixed("vmv.vx") | rd(2) | rs1(6),
+    ]
+}
+
+/// Each lane stores its word of v3 and loads it again; v3 is then that word plus one plus a lane's
+/// own number, if `more` is v1, or else the same in all lanes.
+fn store_and_add(t: &Table, more: u32) -> Vec<u32> {
+    vec![
+        t.fixed("vsw12") | rs1(2) | rs2(3) | enc_s(0),
+        t.fixed("vlw12") | rs1(2) | rd(4) | enc_i(0),
+        t.fixed("vadd.vi") | rd(4) | rs2(4) | rs1(1),
+        t.fixed("vadd.vv") | rd(3) | rs2(4) | rs1(more),
     ]
 }
 

@@ -108,8 +108,12 @@ fn execute<M: Memory + ?Sized>(
             load_lanes(w.mask, lanes_mut(v, vd), memory, kind, &at);
         }
         Insn::Vstore { space, kind, vs1, vs2, off } => {
-            let at = places(w, memory, lanes_of(v, vs1), space, off, store_size(kind))?;
-            store_lanes(w.mask, lanes_of(v, vs2), memory, kind, &at);
+            let (size, values) = (store_size(kind), lanes_of(v, vs2));
+            let at = places(w, memory, lanes_of(v, vs1), space, off, size)?;
+            if clash(w.mask, values, &at, size) {
+                return Err(Refusal::Clashing);
+            }
+            store_lanes(w.mask, values, memory, kind, &at);
         }
     }
     w.pc = w.pc.wrapping_add(4);
@@ -531,7 +535,36 @@ fn load_lanes<M: Memory + ?Sized>(
     }
 }
 
-/// Ascending, so that the highest lane wins a shared byte.
+/// Whether two active lanes would store different values to one byte. Mostly the lanes go up or
+/// down by a store's size or more, so that no two have a byte in common; only where they don't are
+/// the lanes compared two by two.
+#[inline]
+fn clash(mask: u32, values: &[u32; LANES], at: &[usize; LANES], size: usize) -> bool {
+    let places = || active(mask).map(|lane| at[lane]);
+    let neighbours = || places().zip(places().skip(1));
+    let up = neighbours().all(|(one, next)| one + size <= next);
+    let apart = up || neighbours().all(|(one, next)| next + size <= one);
+    !apart && pair_clashes(mask, values, at, size)
+}
+
+#[inline(never)]
+fn pair_clashes(mask: u32, values: &[u32; LANES], at: &[usize; LANES], size: usize) -> bool {
+    let store = |lane: usize| (at[lane], values[lane]);
+    let below = |lane: usize| active(mask & (BIT[lane] - 1));
+    active(mask).any(|lane| below(lane).any(|other| differ(store(lane), store(other), size)))
+}
+
+/// Whether two stores, each at a place with a value, leave a byte that they have in common
+/// different.
+#[inline]
+pub fn differ(one: (usize, u32), other: (usize, u32), size: usize) -> bool {
+    let ((at, low), (next, high)) = if one.0 <= other.0 { (one, other) } else { (other, one) };
+    // From byte `from` on, the lower store's bytes are the upper one's first ones.
+    let from = next - at;
+    from < size && (low >> (8 * from) ^ high) & (u32::MAX >> (8 * (4 + from - size))) != 0
+}
+
+/// In any order: a byte that lanes have in common gets the same value from each.
 #[inline]
 fn store_lanes<M: Memory + ?Sized>(
     mask: u32,

@@ -5,6 +5,7 @@
 use crate::case::{evaluate, launch_words, Case, Data, Job, Kernel, Shown, Vector};
 use crate::exec::address;
 use crate::generate_prefixes::{csrs_behind_a_prefix, digits, prefixes, random_prefix};
+use crate::generate_stores::shared_bytes;
 use crate::isa::{Space, ENDPRG, JOIN, SCALARS};
 use crate::state::{Fixed, Launch, Split, Warp};
 use crate::table::{
@@ -67,7 +68,7 @@ pub(crate) fn is_private(v: &Variant) -> bool {
 }
 
 /// How many bytes an access takes, by its name.
-fn size_of(v: &Variant) -> u32 {
+pub(crate) fn size_of(v: &Variant) -> u32 {
     let width = v.name.trim_start_matches('v')[1..].trim_end_matches("12").trim_end_matches(".p");
     match width {
         "b" | "bu" => 1,
@@ -140,6 +141,19 @@ fn small_private(rng: &mut Rng, t: &Table, v: &Variant) -> [u32; 2] {
     [small, access(v, base, rng.below(32), off)]
 }
 
+/// A plain store by lanes, after words that put its lanes side by side or further apart, so that
+/// none clashes.
+fn store_apart(rng: &mut Rng, t: &Table, v: &Variant) -> [u32; 4] {
+    let (places, base) = (address_register(rng), address_register(rng));
+    let shift = size_of(v).trailing_zeros() + rng.below(2);
+    [
+        t.fixed("vid.v") | rd(places),
+        t.fixed("vsll.vi") | rd(places) | rs2(places) | rs1(shift),
+        t.fixed("vadd.vx") | rd(places) | rs2(places) | rs1(base),
+        access(v, places, rng.below(32), rng.range(-8, 12)),
+    ]
+}
+
 /// The byte offset from word `at` to a word of the kernel, the one past the
 /// end included; forward only if asked, seldom misaligned if `wild`.
 fn target(rng: &mut Rng, at: u32, words: u32, forward: bool, wild: bool) -> i32 {
@@ -162,15 +176,22 @@ pub(crate) struct Place {
     pub(crate) at: u32,
     pub(crate) words: u32,
     pub(crate) forward: bool,
-    /// Let some words be refused (7 to 9, 14).
+    /// Let some words be refused (7 to 9, 14, 15).
     pub(crate) wild: bool,
 }
 
+/// Whether a word mostly has others before it that make it likely to be taken.
+fn is_prepared(v: &Variant) -> bool {
+    is_private(v) || v.shape == Shape::Vstore
+}
+
 /// A word of a variant. A private access has one before it that makes its u small; if `wild`,
-/// seldom none, with any u.
+/// seldom none, with any u. A plain store by lanes has three before it, seldom none.
 fn push_drawn(rng: &mut Rng, t: &Table, v: &Variant, p: Place, kernel: &mut Vec<u32>) {
     if is_private(v) && !(p.wild && rng.chance(20)) {
         kernel.extend(small_private(rng, t, v));
+    } else if v.shape == Shape::Vstore && !rng.chance(6) {
+        kernel.extend(store_apart(rng, t, v));
     } else {
         kernel.push(draw(rng, v, p));
     }
@@ -320,7 +341,7 @@ fn fill_registers(rng: &mut Rng, g: &Ground, x: &mut [u32]) {
 
 /// Up to `depth` splits, while two lanes are left; deep chains mostly lose one
 /// lane a split.
-fn open_splits(rng: &mut Rng, warp: &mut Warp, words: u32, depth: u32) {
+pub(crate) fn open_splits(rng: &mut Rng, warp: &mut Warp, words: u32, depth: u32) {
     let f = warp.fixed;
     for _ in 0..depth {
         if warp.mask.count_ones() < 2 {
@@ -419,7 +440,7 @@ pub fn all_cases(round: u32) -> Vec<Case> {
     near_words(round, &table, &mut out);
     data_ends(round, &table, &mut out);
     privates(round, &table, &mut out);
-    overlaps(round, &table, &mut out);
+    shared_bytes(round, &table, &mut out);
     pc_edges(round, &table, &mut out);
     sizes(round, &mut out);
     cards(round, &mut out);
@@ -647,7 +668,7 @@ impl<'a> Soup<'a> {
                 15 if rng.chance(6) => self.t.get("vmv.x.s"),
                 _ => rng.pick(&self.scalar),
             };
-            if rng.chance(if v.takes_regext() { 5 } else { 60 }) && !is_private(v) {
+            if rng.chance(if v.takes_regext() { 5 } else { 60 }) && !is_prepared(v) {
                 kernel.push(random_prefix(rng, v));
             }
             push_drawn(rng, self.t, v, p, &mut kernel);
@@ -685,6 +706,8 @@ pub(crate) struct Builder<'a> {
     limit: usize,
     /// One in this many constructs is badly nested; 0 for none.
     bad: u32,
+    /// The bytes from one lane's address in v2 to the next one's.
+    apart: u32,
     vector: Vec<&'a Variant>,
     scalar: Vec<&'a Variant>,
     vbranch: Vec<&'a Variant>,
@@ -697,6 +720,7 @@ impl<'a> Builder<'a> {
             words: Vec::new(),
             limit,
             bad,
+            apart: 1,
             vector: t.with(|v| v.fixed & 0x7f == 0x57 && v.shape == Shape::Plain),
             scalar: t.with(|v| {
                 v.shape == Shape::Plain && matches!(v.fixed & 0x7f, 0x13 | 0x33 | 0x37 | 0x17)
@@ -730,6 +754,7 @@ impl<'a> Builder<'a> {
         self.op("lui", rd(8) | high);
         self.op("addi", rd(8) | rs1(8) | enc_i(data_base.wrapping_sub(high) as i32));
         let shift = rng.below(3);
+        self.apart = 1 << shift;
         self.op("vsll.vi", rd(2) | rs2(1) | rs1(shift));
         self.op("vadd.vx", rd(2) | rs2(2) | rs1(8));
         self.op("vand.vi", rd(3) | rs2(1) | rs1(rng.pick(&[1, 3, 7])));
@@ -796,16 +821,28 @@ impl<'a> Builder<'a> {
         self.words.push(word);
     }
 
+    /// A store's name, flat at v2: mostly of a size by which lanes don't overlap.
+    pub(crate) fn flat_store(&self, rng: &mut Rng) -> &'static str {
+        let any = rng.chance(10);
+        let names = [("vsb12", 1), ("vsh12", 2), ("vsw12", 4)];
+        let fits = names.iter().filter(|(_, size)| any || *size <= self.apart);
+        let names: Vec<&str> = fits.map(|(name, _)| *name).collect();
+        rng.pick(&names)
+    }
+
     /// A load or store, flat at v2 or private at v3.
     fn lane_access(&mut self, rng: &mut Rng) {
-        let (loads, stores) = (["lb", "lh", "lw", "lbu", "lhu"], ["sb", "sh", "sw"]);
-        let (name, value) = match rng.below(2) {
-            0 => (rng.pick(&loads), 4 + rng.below(12)),
-            _ => (rng.pick(&stores), 1 + rng.below(15)),
-        };
-        let word = if rng.chance(2) {
-            access(self.t.get(&format!("v{name}12")), 2, value, rng.range(0, 16))
+        let loads = ["lb", "lh", "lw", "lbu", "lhu"];
+        let (store, flat) = (rng.chance(2), rng.chance(2));
+        let value = if store { 1 + rng.below(15) } else { 4 + rng.below(12) };
+        let word = if flat {
+            let name = match store {
+                true => self.flat_store(rng).into(),
+                false => format!("v{}12", rng.pick(&loads)),
+            };
+            access(self.t.get(&name), 2, value, rng.range(0, 16))
         } else {
+            let name = if store { rng.pick(&["sb", "sh", "sw"]) } else { rng.pick(&loads) };
             let v = self.t.get(&format!("v{name}.p"));
             let low = Low::mostly_fitting(rng, size_of(v));
             access(v, 3, value, 4 * rng.range(0, 3) + low.at as i32)
@@ -1146,6 +1183,9 @@ fn data_end(rng: &mut Rng, v: &Variant, total: u32, base: u32, place: u32) -> Ca
     let off = rng.range(-40, 40);
     g.vector.base = place.wrapping_sub(off as u32);
     g.vector.mask = 0;
+    if v.shape == Shape::Vstore && !rng.chance(3) {
+        g.fixed.mask = 1 << rng.below(4); // all lanes at one place clash
+    }
     if is_private(v) {
         let lane = rng.below(32);
         g.fixed.numt = lane + 1 + rng.below(32 - lane);
@@ -1176,11 +1216,6 @@ fn privates(round: u32, t: &Table, out: &mut Vec<Case>) {
         let count = if size_of(v) == 1 { 20 } else { 40 };
         for _ in 0..count {
             out.push(private_case(&mut rng, t, v));
-        }
-    }
-    for name in ["vsb.p", "vsh.p", "vsw.p"] {
-        for _ in 0..4 {
-            out.push(meeting_lanes(&mut rng, t, name));
         }
     }
 }
@@ -1328,66 +1363,6 @@ fn private_ground(rng: &mut Rng, numt: u32, u: u32, rows: u32) -> Ground {
     g.data = Data { bytes: Vec::new(), total, seed: rng.word() };
     g.vector.seed = rng.word();
     g
-}
-
-/// Private words of different lanes that meet, which takes huge u's: x6 times NUMT is -4.
-fn meeting_lanes(rng: &mut Rng, t: &Table, name: &str) -> Case {
-    let numt = 3 + 2 * rng.below(15);
-    let g = private_ground(rng, numt, 0, 1);
-    let v = t.get(name);
-    let low = Low::fitting(rng, size_of(v));
-    let kernel = vec![
-        t.fixed("vid.v") | rd(1),
-        t.fixed("vmul.vx") | rd(2) | rs2(1) | rs1(6),
-        access(v, 2, 4, low.at as i32),
-        t.fixed("vlw.p") | rd(3) | rs1(2),
-    ];
-    let mut warp = Warp { fixed: g.fixed, mask: g.fixed.mask, ..Warp::default() };
-    warp.pc = g.fixed.code_base;
-    warp.x[6] = inverse(numt).wrapping_mul(4).wrapping_neg();
-    state_case(&warp, kernel, g, 4)
-}
-
-/// What times the odd number is 1, modulo 2^32; each turn doubles the bits that are right, three
-/// at first.
-fn inverse(odd: u32) -> u32 {
-    (0..4).fold(odd, |y, _| y.wrapping_mul(2u32.wrapping_sub(odd.wrapping_mul(y))))
-}
-
-/// Stores whose lanes meet, and one lane outside among many inside.
-fn overlaps(round: u32, t: &Table, out: &mut Vec<Case>) {
-    let mut rng = Rng::of_family(round, 9);
-    let rng = &mut rng;
-    for n in 0..120 {
-        let mut g = ground(rng, 4);
-        (g.fixed.numt, g.fixed.mask) = (32, u32::MAX);
-        if n % 3 == 0 {
-            g.fixed.mask = some_lanes(rng, u32::MAX);
-        }
-        (g.fixed.numw, g.fixed.wid) = (1, 0);
-        g.data.total = 16 + rng.below(60);
-        g.vector.base = g.fixed.data_base;
-        g.vector.mask = rng.pick(&[0, 1, 3, 7, 7]);
-        // Some lane of a wider spread falls outside.
-        if n % 4 == 3 {
-            g.vector.mask = 63;
-        }
-        let top = 0u32.wrapping_sub(g.data.total);
-        if g.fixed.data_base > top {
-            g.fixed.data_base = 0x9000_0000;
-            g.vector.base = 0x9000_0000;
-        }
-        let mut kernel = Vec::new();
-        for _ in 0..3 {
-            let name = rng.pick(&["vsb12", "vsh12", "vsw12"]);
-            let fields =
-                rs1(address_register(rng)) | rs2(4 * rng.below(8)) | enc_s(rng.range(0, 8));
-            kernel.push(t.fixed(name) | fields);
-        }
-        kernel.push(t.fixed("vlw12") | rd(3) | rs1(6));
-        let warp = random_state(rng, &g, 4, 0);
-        out.push(state_case(&warp, kernel, g, 4));
-    }
 }
 
 /// PCs at both ends of the space and of the kernel.

@@ -5,10 +5,16 @@
 use crate::case::{launch_words, Case, Data, Handed, Job, Kernel, Vector};
 use crate::generate::{
     access, break_state, card_of, extended_state, ground, is_private, kernel_pc, low_mask,
-    raw_card, some_lanes, spoil, touches_memory, Ground, Rng, Soup, CLAUSES, VECTOR,
+    raw_card, size_of, some_lanes, spoil, touches_memory, Ground, Rng, Soup, CLAUSES, VECTOR,
+};
+use crate::generate_stores::{
+    is_lane_store, lane_count, lanes_of, private_u, span, spoil_one, store_words, stored,
+    table_bytes, Stored, TABLES,
 };
 use crate::group::{state_words, Group, WARPS};
-use crate::group_kernels::{refused_words, GroupKernel, IN_SPLITS, OUTSIDE, REFUSED_WAYS, SCRATCH};
+use crate::group_kernels::{
+    refused_words, GroupKernel, DATA, IN_SPLITS, OUTSIDE, REFUSED_WAYS, SCRATCH,
+};
 use crate::isa::{Prefix, ENDPRG, SCALARS};
 use crate::saved::{CODE_BASE_AT, DATA_BASE_AT, LDS_AT, NUMT_AT, NUMW_AT, WID_AT, WORDS};
 use crate::state::{Fixed, Launch, Warp};
@@ -29,6 +35,7 @@ pub fn group_cases(round: u32) -> Vec<Case> {
     soups(round, t, &mut out);
     arrivals(round, &mut out);
     edges(round, t, &mut out);
+    shared_bytes(round, t, &mut out);
     stops(round, t, &mut out);
     damaged(round, &mut out);
     ended(round, &mut out);
@@ -323,10 +330,11 @@ fn edge(rng: &mut Rng, t: &Table, v: &Variant) -> Case {
     for warp in &mut group.warps {
         warp.x[6] = first;
         warp.x[7] = second.wrapping_sub(first);
-        warp.x[8] = rng.word();
+        warp.x[8] = if rng.chance(2) { rng.word() } else { 0x0101_0101 * rng.below(256) };
     }
     let kernel = vec![
         t.fixed("vid.v") | rd(1),
+        t.fixed("vmv.vx") | rd(8) | rs1(8), // v9 differs from lane to lane
         t.fixed("vand.vi") | rd(2) | rs2(1) | rs1(1),
         t.fixed("vmul.vx") | rd(2) | rs2(2) | rs1(7),
         t.fixed("vadd.vx") | rd(2) | rs2(2) | rs1(6), // even lanes at the first, odd at the second
@@ -346,7 +354,7 @@ fn edge_access(rng: &mut Rng, v: &Variant) -> u32 {
         _ if is_private(v) => 3,
         _ => 2,
     };
-    access(v, address, rng.pick(&[8, 8, 9]), 0)
+    access(v, address, rng.pick(&[8, 8, 8, 9]), 0)
 }
 
 /// A load of words by the same registers as the access.
@@ -358,6 +366,95 @@ fn load_like<'a>(t: &'a Table, v: &Variant) -> &'a Variant {
     })
 }
 
+/// Every store by lanes, with lanes that share bytes, in one memory or in both; several warps store
+/// to the same bytes.
+fn shared_bytes(round: u32, t: &Table, out: &mut Vec<Case>) {
+    let mut rng = Rng::of_family(round, 50);
+    let rng = &mut rng;
+    for _ in 0..20 {
+        for v in t.with(is_lane_store) {
+            out.push(shared_case(rng, t, v));
+        }
+    }
+}
+
+/// One warp's stores: those into data memory, and those into local memory.
+type InEach = [Vec<Stored>; 2];
+
+/// A private store is in one memory, a plain one in one or, lane by lane, in both.
+fn stored_in_each(rng: &mut Rng, mask: u32, size: u32, numt: Option<u32>, memory: u32) -> InEach {
+    let lanes = lanes_of(mask);
+    match (memory, numt) {
+        (0, _) => [stored(rng, &lanes, size, numt), vec![]],
+        (2, None) => [0, 1].map(|odd| {
+            let every_other: Vec<u32> = lanes.iter().copied().skip(odd).step_by(2).collect();
+            stored(rng, &every_other, size, None)
+        }),
+        _ => [vec![], stored(rng, &lanes, size, numt)],
+    }
+}
+
+fn shared_case(rng: &mut Rng, t: &Table, v: &Variant) -> Case {
+    let (numw, memory) = (rng.pick(&[1, 2, 2, 3]), rng.pick(&[0, 1, 2, 2]));
+    let off = rng.range(-40, 40);
+    let (size, private) = (size_of(v), is_private(v));
+    let numt = lane_count(rng, private);
+    let words = [&store_words(rng, t, v, numt, off)[..], &[ENDPRG]].concat();
+    let mut g = even_ground(rng, numw);
+    for fixed in &mut g.each {
+        let all = low_mask(numt);
+        fixed.mask = if rng.chance(2) { some_lanes(rng, all) } else { all };
+    }
+    let stores: Vec<InEach> = g
+        .each
+        .iter()
+        .map(|f| stored_in_each(rng, f.mask, size, private.then_some(numt), memory))
+        .collect();
+    // The data has two tables for each warp, then its target; local memory is a target, which
+    // begins as far from LDS where lanes are in both.
+    let bytes = |n: usize| stores.iter().map(|each| span(&each[n], size)).max().unwrap_or(0);
+    let tables = 8 * numt * numw;
+    let before = if memory == 2 { tables } else { 0 };
+    g.data.total = tables + bytes(0) + rng.below(3);
+    g.local.total = before + bytes(1) + rng.below(3);
+    let data_base = 0x1000;
+    let lds = local_base(rng, data_base, g.data.total, g.local.total);
+    let targets = [data_base + tables, lds.wrapping_add(before)];
+    let pds = if memory == 0 { targets[0] } else { targets[1] };
+    let shared = Fixed { numt, numw, data_base, lds, pds, ..g.each[0] };
+    for (wid, fixed) in (0..).zip(&mut g.each) {
+        *fixed = Fixed { wid, mask: fixed.mask, ..shared };
+    }
+    for each in &stores {
+        let mut all = registers(each, targets, private.then_some(numt));
+        // Of the lanes that are not active.
+        (g.vector.base, g.vector.mask) = (all[0].at.wrapping_sub(off as u32), 0);
+        let outside = if private { 4 * (1 + g.data.total.max(g.local.total)) } else { OUTSIDE };
+        spoil_one(rng, &mut all, v, outside);
+        all.iter_mut().for_each(|one| one.at = one.at.wrapping_sub(off as u32));
+        g.data.bytes.extend(table_bytes(numt, &all));
+    }
+    let mut group = g.launched();
+    for (n, warp) in group.warps.iter_mut().enumerate() {
+        warp.x[TABLES] = data_base + 8 * numt * n as u32;
+    }
+    group.turn = rng.below(numw);
+    let handed = g.handed(group.to_words(), Kernel::plain(words));
+    Case::GroupRun { handed, budget: 60, out: 2 }
+}
+
+/// What the address registers hold: of a plain store the address, of a private one u.
+fn registers(each: &InEach, targets: [u32; 2], numt: Option<u32>) -> Vec<Stored> {
+    let register = |one: &Stored, target: u32| match numt {
+        Some(numt) => private_u(numt, one.lane, one.at).expect("a place that the lane has"),
+        None => target.wrapping_add(one.at),
+    };
+    let both = each.iter().zip(targets).flat_map(|(stores, target)| {
+        stores.iter().map(move |one| Stored { at: register(one, target), ..*one })
+    });
+    both.collect()
+}
+
 /// A warp that is refused stops the group, whichever it is and wherever the turn is.
 fn stops(round: u32, t: &Table, out: &mut Vec<Case>) {
     let mut rng = Rng::of_family(round, 45);
@@ -366,6 +463,7 @@ fn stops(round: u32, t: &Table, out: &mut Vec<Case>) {
         let numw = rng.pick(&[1, 2, 2, 3, 4]);
         let mut g = even_ground(rng, numw);
         g.each.iter_mut().for_each(|f| (f.numt, f.mask) = (4, rng.pick(&[0x3, 0xb, 0xf])));
+        (g.vector.base, g.vector.mask) = (g.each[0].data_base, 0); // one address in all lanes
         let way = n % REFUSED_WAYS;
         let wrong = refused_words(rng, t, way);
         let kernel = [&wrong[..], &[NOP, ENDPRG]].concat();
@@ -391,6 +489,7 @@ fn group_to_stop(rng: &mut Rng, g: &GroupGround, begin: u32, past: u32) -> Group
         (warp.waiting, warp.ended) = (stands == 1, stands == 2);
         warp.pc = warp.pc.wrapping_add(if stops { begin } else { past });
         warp.x[SCRATCH as usize] = OUTSIDE;
+        warp.x[DATA as usize] = warp.fixed.data_base;
     }
     group.turn = if rng.chance(3) { rng.below(g.warps()) } else { stopping };
     group

@@ -3,7 +3,7 @@
 //! of this generator's own; round 0 makes the stored cases.
 
 use crate::case::{Case, Job};
-use crate::generate::{all_cases, plain_job, Rng};
+use crate::generate::{access, all_cases, plain_job, Rng};
 use crate::generate_prefixes::prefixed_kernels;
 use crate::isa::{ENDPRG, JOIN};
 use crate::sheet::{run_steps, sheet_of, SHEET_BYTES, STEPS, STEP_BYTES};
@@ -108,9 +108,23 @@ fn own_jobs() -> Vec<Job> {
         plain_job(4, vec![vid, NOP, NOP, differ, ENDPRG]),
         splits_for_ever(32),
     ];
+    jobs.extend(["vsb12", "vsh12", "vsw12"].map(|name| store_to_one_place(t, name, 1)));
+    jobs.push(store_to_one_place(t, "vsw12", 2));
     jobs.extend(first_refused.map(|word| plain_job(4, vec![word, ENDPRG])));
     jobs.extend(prefixed_kernels(t).into_iter().map(|kernel| plain_job(4, kernel)));
     jobs
+}
+
+/// Four lanes store at the data base: their numbers in v1, which clash, or the address in v2.
+fn store_to_one_place(t: &Table, name: &str, value: u32) -> Job {
+    let kernel = vec![
+        t.fixed("vid.v") | rd(1),
+        t.fixed("lui") | rd(5) | 0x9000_0000,
+        t.fixed("vmv.vx") | rd(2) | rs1(5),
+        access(t.get(name), 2, value, 0),
+        ENDPRG,
+    ];
+    plain_job(4, kernel)
 }
 
 /// Lane l goes round l + 1 times, so that a split is open for each lane but one; then all again.

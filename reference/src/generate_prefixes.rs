@@ -10,7 +10,7 @@ use crate::isa::{decode, Insn, Prefix, ENDPRG, JOIN};
 use crate::state::Warp;
 use crate::table::{
     enc_b, enc_i, enc_j, enc_s, rd, regext, regexti, rs1, rs2, File, Shape, Table, Variant,
-    BARRIER, NOP, REGEXT, REGEXTI,
+    BARRIER, NOP, RD, REGEXT, REGEXTI,
 };
 
 /// Digits xd, x1 and x2 for a word's registers, all of which are there; any where the field is no
@@ -79,8 +79,9 @@ pub(crate) fn prefixes(round: u32, t: &Table, out: &mut Vec<Case>) {
 /// Each variant behind REGEXT, a few times over; the first prefix is pending or in the kernel.
 fn behind_regext(rng: &mut Rng, t: &Table, out: &mut Vec<Case>) {
     for v in t.with(Variant::takes_regext) {
-        // A private access takes four words, and is refused more often.
-        let (cases, words) = if is_private(v) { (8, 16) } else { (4, 8) };
+        // A store by lanes or a private access takes four words, and is refused more often.
+        let four = is_private(v) || v.shape == Shape::Vstore;
+        let (cases, words) = if four { (8, 16) } else { (4, 8) };
         for n in 0..cases {
             let mut kernel = Vec::new();
             while (kernel.len() as u32) < words {
@@ -118,6 +119,11 @@ fn push_behind(rng: &mut Rng, t: &Table, v: &Variant, p: Place, kernel: &mut Vec
             regext(x2, x1, xd),
             access(v, base, rng.below(32), 4 * rng.range(-1, 2)),
         ]);
+    } else if v.shape == Shape::Vstore {
+        // All lanes store bytes of one value, wherever they meet.
+        let word = draw(rng, v, p);
+        let same = t.fixed("vmv.vi") | word >> 13 & RD | rs1(rng.pick(&[0, 31]));
+        kernel.extend([regext(rng.below(8), 0, x2), same, regext(x2, x1, xd) | third(rng), word]);
     } else {
         kernel.extend([regext(x2, x1, xd) | third(rng), draw(rng, v, p)]);
     }

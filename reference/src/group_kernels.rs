@@ -8,7 +8,7 @@ use crate::table::{enc_b, enc_i, enc_j, rd, rs1, rs2, Table, BARRIER};
 // What the registers hold that no piece of the builder writes.
 
 /// The data base, by the builder's own prelude.
-const DATA: u32 = 8;
+pub(crate) const DATA: u32 = 8;
 const WID: u32 = 22;
 const LDS: u32 = 23;
 /// The addresses of a word that other warps of few don't have, in each memory.
@@ -105,8 +105,12 @@ impl<'a> GroupKernel<'a> {
     fn lane_words(&mut self, rng: &mut Rng) {
         for _ in 0..1 + rng.below(2) {
             let addresses = rng.pick(&[LANES_IN_DATA, LANES_IN_LOCAL, LANES_IN_BOTH]);
-            let names = ["vsb12", "vsh12", "vsw12", "vsw12", "vlb12", "vlhu12", "vlw12", "vlw12"];
-            let v = self.t.get(rng.pick(&names));
+            let name = match rng.below(2) {
+                0 if addresses == LANES_IN_LOCAL => rng.pick(&["vsb12", "vsh12", "vsw12"]),
+                0 => self.b.flat_store(rng),
+                _ => rng.pick(&["vlb12", "vlhu12", "vlw12", "vlw12"]),
+            };
+            let v = self.t.get(name);
             let word = access(v, addresses, 4 + rng.below(12), rng.pick(&[0, 0, 1, 4]));
             self.b.words.push(word);
         }
@@ -138,8 +142,8 @@ impl<'a> GroupKernel<'a> {
     }
 }
 
-/// The ways in which `refused_words` are refused: 5 to 11, of which 11 in two ways, and 14.
-pub(crate) const REFUSED_WAYS: u32 = 9;
+/// The ways in which `refused_words` are refused: 5 to 11, of which 11 in two ways, 14 and 15.
+pub(crate) const REFUSED_WAYS: u32 = 10;
 pub(crate) const IN_SPLITS: [u32; 2] = [6, 7];
 
 /// An address in neither memory.
@@ -160,10 +164,15 @@ pub(crate) fn refused_words(rng: &mut Rng, t: &Table, way: u32) -> Vec<u32> {
         5 => vec![lane_numbers, t.fixed("vmv.x.s") | rd(SCRATCH) | rs2(9)],
         6 => vec![lane_numbers, leaves_lane_0, ENDPRG],
         7 => vec![lane_numbers, leaves_lane_0, BARRIER],
-        _ => {
+        8 => {
             let name = rng.pick(&["vlw.p", "vsw.p"]);
             let zero = t.fixed("vmv.vi") | rd(ZERO);
             vec![zero, access(t.get(name), ZERO, 9, rng.range(1, 3))]
+        }
+        _ => {
+            let name = rng.pick(&["vsb12", "vsh12", "vsw12"]);
+            let one_address = t.fixed("vmv.vx") | rd(10) | rs1(DATA);
+            vec![lane_numbers, one_address, access(t.get(name), 10, 9, rng.range(0, 9))]
         }
     }
 }

@@ -10,6 +10,7 @@ pub mod generate;
 pub mod generate_groups;
 pub mod generate_marks;
 mod generate_prefixes;
+mod generate_stores;
 pub mod group;
 mod group_kernels;
 pub mod isa;
@@ -53,6 +54,8 @@ pub enum Refusal {
     Card = 13,
     /// 14: a private access that crosses a word boundary of its lane.
     Crossing = 14,
+    /// 15: active lanes that store different values to one byte by one instruction.
+    Clashing = 15,
     /// 16: malformed sheet.
     Sheet = 16,
     /// 17: a run of no steps.

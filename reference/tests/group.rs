@@ -642,6 +642,7 @@ fn a_refused_warp_stops_the_group_with_its_number_and_wid() {
     let differ = [v("vid.v", 1, 0, 0), r("vmv.x.s", 3, 0, 1)];
     let split = [v("vid.v", 1, 0, 0), b("vbeq", 1, 0, 8), ENDPRG];
     let parked = [v("vid.v", 1, 0, 0), b("vbeq", 1, 0, 8), BARRIER];
+    let clash = [v("vid.v", 1, 0, 0), bases()[0], v("vmv.vx", 2, 0, 6), s("vsw12", 2, 1, 0)];
     for (number, words) in [
         (5, &[j(0, 4096)][..]),
         (6, &[UNKNOWN]),
@@ -652,6 +653,7 @@ fn a_refused_warp_stops_the_group_with_its_number_and_wid() {
         (11, &split),
         (11, &parked),
         (14, &[i("vlw.p", 1, 2, 1)]),
+        (15, &clash),
     ] {
         // Warps 1 and 2 go on; warp 0 meets the words.
         let kernel = parted(&[NOP, NOP, NOP, j(0, 0)], words);
@@ -819,12 +821,106 @@ fn all_lanes_are_tested_before_one_stores() {
 }
 
 #[test]
-fn the_highest_lane_wins_in_either_memory() {
-    let mut desk = Desk::launched(1, &[s("vsb12", 1, 2, 0)]);
-    desk.set_v(0, 1, &[DATA, LOCAL, DATA, LOCAL]);
-    desk.set_v(0, 2, &[1, 2, 3, 4]);
-    desk.take(1);
-    assert_eq!((desk.data[0], desk.local[0]), (3, 4));
+fn lanes_that_differ_clash_in_either_memory() {
+    for (at, values, number) in [
+        ([DATA, LOCAL, DATA + 1, LOCAL + 1], [1, 2, 3, 4], 0),
+        ([DATA, LOCAL, DATA, LOCAL], [1, 2, 1, 2], 0),
+        ([DATA, LOCAL, DATA, LOCAL], [1, 2, 3, 2], 15),
+        ([DATA, LOCAL, DATA, LOCAL], [1, 2, 1, 4], 15),
+        ([LOCAL + 63, LOCAL, LOCAL + 9, LOCAL + 63], [1, 2, 3, 4], 15),
+        ([DATA, LOCAL, LOCAL + 9, 0], [1, 2, 3, 4], 9),
+        ([LOCAL, LOCAL, LOCAL, 0], [1, 2, 3, 4], 9),
+    ] {
+        let mut desk = Desk::launched(1, &[s("vsb12", 1, 2, 0)]);
+        desk.set_v(0, 1, &at);
+        desk.set_v(0, 2, &values);
+        match number {
+            0 => desk.take(1),
+            _ => desk.refused(number, 0),
+        }
+    }
+    // By halves and words, which overlap by one byte: 7f is the last of the lower one.
+    for (name, apart, value) in [("vsh12", 1, 0x7fee), ("vsw12", 3, 0x7fee_ddcc)] {
+        for base in [DATA, LOCAL, LOCAL + 60 - apart] {
+            let mut desk = Desk::launched(1, &[s(name, 1, 2, 0)]);
+            desk.set_v(0, 1, &[base + apart, DATA + 20, LOCAL + 20, base]);
+            desk.set_v(0, 2, &[0x7f, 1, 2, value]);
+            desk.clone().take(1);
+            desk.set_v(0, 2, &[0x17f, 1, 2, value ^ 1]);
+            desk.clone().take(1);
+            desk.set_v(0, 2, &[0x17e, 1, 2, value]);
+            desk.refused(15, 0);
+        }
+    }
+}
+
+/// The last byte of the data and the first of local memory are no common byte, though places that
+/// are counted in each begin alike.
+#[test]
+fn lanes_in_different_memories_never_clash() {
+    for lds in [LOCAL, DATA + 64, DATA - 64] {
+        let mut launch = launch_of(0, 1);
+        launch.fixed.lds = lds;
+        for name in ["vsb12", "vsh12", "vsw12"] {
+            let mut desk = Desk::on(&[launch], &[s(name, 1, 2, 0)]);
+            desk.set_v(0, 1, &[DATA, lds, DATA + 60, lds + 60]);
+            desk.set_v(0, 2, &[1, 2, 3, 4]);
+            desk.take(1);
+            assert_eq!((desk.data[0], desk.local[0]), (1, 2));
+            assert_eq!((desk.data[60], desk.local[60]), (3, 4));
+        }
+    }
+}
+
+/// Each warp's own store is sound, and the later one's values stay; a store of one warp that
+/// clashes in itself stops the group, whichever warp it is.
+#[test]
+fn stores_of_different_warps_are_ordered_by_their_steps() {
+    for base in [DATA, LOCAL] {
+        let mut desk = Desk::launched(3, &[s("vsw12", 1, 2, 0), ENDPRG]);
+        for warp in 0..3 {
+            desk.set_v(warp, 1, &[base, base + 4, base + 8, base]);
+            let own = 10 * warp as u32;
+            desk.set_v(warp, 2, &[own, own + 1, own + 2, own]);
+        }
+        let word = |desk: &Desk, at: usize| match base {
+            DATA => desk.data_word(at),
+            _ => desk.local_word(at),
+        };
+        for warp in 0..3 {
+            let mut clashing = desk.clone();
+            clashing.set_v(warp, 2, &[77, 1, 2, 78]);
+            clashing.take(warp as u32);
+            clashing.refused(15, warp as u32);
+            assert_eq!(clashing.turn(), warp as u32);
+        }
+        for warp in 0..3 {
+            desk.take(1);
+            assert_eq!([0, 4, 8].map(|at| word(&desk, at)), [0, 1, 2].map(|n| 10 * warp + n));
+        }
+        assert_eq!(desk.run(99), (3, 3, 0));
+    }
+}
+
+#[test]
+fn private_stores_clash_in_local_memory() {
+    let mut launches = launches(2);
+    launches.iter_mut().for_each(|launch| {
+        (launch.fixed.numt, launch.fixed.mask, launch.fixed.pds) = (3, 7, LOCAL + 8);
+    });
+    let mut desk = Desk::on(&launches, &[s("vsw.p", 1, 2, 0), ENDPRG]);
+    for warp in 0..2 {
+        // All three at one word, as in tests/machine.rs.
+        desk.set_v(warp, 1, &[0, 0x5555_5554, 0xaaaa_aaa8]);
+        desk.set_v(warp, 2, &[5 + warp as u32; 3]);
+    }
+    let mut clashing = desk.clone();
+    clashing.set_v(1, 2, &[6, 6, 7]);
+    clashing.take(1);
+    clashing.refused(15, 1);
+    assert_eq!(clashing.local_word(8), 5);
+    desk.take(2);
+    assert_eq!(desk.local_word(8), 6);
 }
 
 #[test]

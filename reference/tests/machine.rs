@@ -527,13 +527,265 @@ fn loads_extend_and_stores_are_little_endian() {
     assert_eq!(bench.warp.x[3..8], [0xffff_ff84, 0x84, 0xffff_8384, 0x8384, 0x8182_8384]);
 }
 
+/// The plain stores of lanes and their sizes.
+const STORES: [(&str, usize); 3] = [("vsb12", 1), ("vsh12", 2), ("vsw12", 4)];
+
+/// NUMT lanes that store v2 at v1, twice.
+fn store_bench(numt: u32, name: &str, at: &[u32], values: &[u32]) -> Bench {
+    let mut bench = Bench::new(numt, &[s(name, 1, 2, 0); 2], 300);
+    bench.set_v(1, at);
+    bench.set_v(2, values);
+    bench
+}
+
 #[test]
-fn the_highest_lane_wins() {
-    let mut bench = Bench::new(4, &[s("vsw12", 1, 2, 0)], 16);
-    bench.set_v(1, &[DATA + 3, DATA + 2, DATA + 4, DATA]);
-    bench.set_v(2, &[0x1111_1111, 0x2222_2222, 0x3333_3333, 0x4444_4444]);
+fn no_lane_wins_a_byte() {
+    let at = [3, 2, 4, 0].map(|at| DATA + at);
+    let values = [0x1111_1111, 0x2222_2222, 0x3333_3333, 0x4444_4444];
+    store_bench(4, "vsw12", &at, &values).refused(15);
+    let mut bench = store_bench(4, "vsw12", &at, &[0x4444_4444; 4]);
     assert_eq!(bench.step(), 0);
-    assert_eq!(&bench.data[..9], &[0x44, 0x44, 0x44, 0x44, 0x33, 0x33, 0x33, 0x33, 0]);
+    assert_eq!(bench.data[..9], [0x44, 0x44, 0x44, 0x44, 0x44, 0x44, 0x44, 0x44, 0]);
+}
+
+/// Two lanes at every distance: each byte that they have in common decides, and no other.
+#[test]
+fn common_bytes_decide() {
+    let image = [0x81, 0x92, 0xa3, 0xb4, 0xc5, 0xd6, 0xe7, 0xf8, 0x09, 0x1a, 0x2b, 0x3c];
+    let value = |at: u32| u32::from_le_bytes(image[at as usize..][..4].try_into().unwrap());
+    for (name, size) in STORES {
+        for other in 0..=8 {
+            let at = [4, other];
+            let common = |n: usize| {
+                let byte = other as usize + n;
+                n < size && (4..4 + size).contains(&byte)
+            };
+            for changed in 0..4 {
+                for bit in [0, 7] {
+                    let values = [value(4), value(other) ^ 1 << (8 * changed + bit)];
+                    let mut bench = store_bench(2, name, &at.map(|at| DATA + at), &values);
+                    if common(changed) {
+                        bench.refused(15);
+                    } else {
+                        assert_eq!(bench.step(), 0, "{name} at {other}, byte {changed}");
+                    }
+                    // The same with the lanes exchanged.
+                    let at = [DATA + other, DATA + 4];
+                    let code = store_bench(2, name, &at, &[values[1], values[0]]).step();
+                    assert_eq!(code, if common(changed) { 15 } else { 0 });
+                }
+            }
+            let mut bench =
+                store_bench(2, name, &at.map(|at| DATA + at), &[value(4), value(other)]);
+            assert_eq!(bench.step(), 0);
+            for (n, byte) in bench.data.iter().enumerate().take(12) {
+                let stored = at.iter().any(|at| (*at as usize..*at as usize + size).contains(&n));
+                assert_eq!(*byte, if stored { image[n] } else { 0 }, "{name} at {other}, byte {n}");
+            }
+        }
+    }
+}
+
+/// A byte store looks at one byte of its value, a half at two.
+#[test]
+fn bytes_that_are_not_stored_may_differ() {
+    for (name, values, number) in [
+        ("vsb12", [0x1234_5678, 0x8765_4378], 0),
+        ("vsb12", [0x1234_5678, 0x1234_5679], 15),
+        ("vsh12", [0x1234_5678, 0x8765_5678], 0),
+        ("vsh12", [0x1234_5678, 0x1234_5778], 15),
+        ("vsw12", [0x1234_5678, 0x1234_5678], 0),
+        ("vsw12", [0x1234_5678, 0x9234_5678], 15),
+    ] {
+        assert_eq!(store_bench(2, name, &[DATA; 2], &values).step(), number, "{name}");
+    }
+}
+
+/// Lanes far apart are compared as neighbours are, in whatever order the lanes lie.
+#[test]
+fn any_two_lanes_can_clash() {
+    let orders: [fn(u32) -> u32; 3] = [|lane| lane, |lane| 31 - lane, |lane| 13 * lane % 32];
+    for order in orders {
+        for high in 1..32 {
+            for low in 0..high {
+                let mut at: Vec<u32> = (0..32).map(|lane| DATA + 8 * order(lane)).collect();
+                let values: Vec<u32> = (1..33).map(|lane| 0x0101_0101 * lane).collect();
+                assert_eq!(store_bench(32, "vsw12", &at, &values).step(), 0);
+                for (from, to) in [(low, high), (high, low)] {
+                    let own = at[to as usize];
+                    at[to as usize] = at[from as usize] + 3;
+                    store_bench(32, "vsw12", &at, &values).refused(15);
+                    // One byte of it is the other's last.
+                    let mut equal = values.clone();
+                    equal[to as usize] &= !0xff;
+                    equal[to as usize] |= values[from as usize] & 0xff;
+                    assert_eq!(store_bench(32, "vsw12", &at, &equal).step(), 0);
+                    at[to as usize] = own;
+                }
+            }
+        }
+    }
+}
+
+#[test]
+fn outside_comes_before_a_clash() {
+    for (name, _) in STORES {
+        for outside in 0..4 {
+            let mut at = [DATA; 4];
+            at[outside] = DATA + 300;
+            store_bench(4, name, &at, &[1, 2, 3, 4]).refused(9);
+            at[outside] = DATA - 1;
+            store_bench(4, name, &at, &[1, 2, 3, 4]).refused(9);
+            at[outside] = DATA + 8;
+            store_bench(4, name, &at, &[1, 2, 3, 4]).refused(15);
+            // Two lanes outside, which would meet there, are outside.
+            store_bench(4, name, &[DATA + 300; 4], &[1, 2, 3, 4]).refused(9);
+        }
+    }
+}
+
+#[test]
+fn lanes_that_are_not_active_clash_with_none() {
+    for (name, _) in STORES {
+        let at = [DATA, DATA, DATA + 8, DATA + 8, DATA];
+        let values = [1, 2, 3, 4, 5];
+        let mut l = launch(4);
+        for (mask, number) in [(0b0101, 0), (0b1010, 0), (0b0110, 0), (0b0111, 15), (0b1100, 15)] {
+            l.fixed.mask = mask;
+            let mut bench = Bench::launched(&l, &[s(name, 1, 2, 0)], 16);
+            bench.set_v(1, &at);
+            bench.set_v(2, &values);
+            match number {
+                0 => assert_eq!(bench.step(), 0),
+                _ => bench.refused(number),
+            }
+        }
+        // Lanes 1 and 3 parked in a split, then running; then the split is closed.
+        let mut bench = store_bench(4, name, &at, &values);
+        let (rpc, else_pc) = (CODE, CODE);
+        bench.warp.splits[0] = Split { rpc, full: 15, else_mask: 10, else_pc, phase_two: false };
+        (bench.warp.depth, bench.warp.mask) = (1, 5);
+        assert_eq!(bench.step(), 0);
+        assert_eq!((bench.data[0], bench.data[8]), (1, 3));
+        (bench.warp.splits[0].phase_two, bench.warp.mask) = (true, 10);
+        assert_eq!(bench.step(), 0);
+        assert_eq!((bench.data[0], bench.data[8]), (2, 4));
+        (bench.warp.splits[0], bench.warp.depth, bench.warp.mask) = (Split::default(), 0, 15);
+        bench.warp.pc = CODE;
+        bench.refused(15);
+    }
+}
+
+#[test]
+fn one_lane_alone_and_scalar_stores_never_clash() {
+    for lane in 0..32 {
+        let mut l = launch(32);
+        l.fixed.mask = 1 << lane;
+        let mut bench = Bench::launched(&l, &[s("vsw12", 1, 2, 0)], 4);
+        bench.set_v(1, &[DATA; 32]);
+        (0..32).for_each(|lane| bench.vector[64 + lane] = lane as u32);
+        assert_eq!(bench.step(), 0);
+        assert_eq!(bench.data, [lane as u8, 0, 0, 0]);
+    }
+    let kernel = ["sb", "sh", "sw"].map(|name| s(name, 1, 2, 0));
+    let mut bench = Bench::new(32, &kernel, 4);
+    (bench.warp.x[1], bench.warp.x[2]) = (DATA, 0x8182_8384);
+    assert_eq!(bench.run(3), (0, 3));
+    assert_eq!(bench.data, [0x84, 0x83, 0x82, 0x81]);
+}
+
+#[test]
+fn loads_of_one_address_never_clash() {
+    let plain = ["vlb12", "vlbu12", "vlh12", "vlhu12", "vlw12"].map(|name| i(name, 4, 1, 0));
+    let mut bench = Bench::new(32, &plain, 8);
+    bench.set_v(1, &[DATA + 1; 32]);
+    (0..32).for_each(|lane| bench.vector[128 + lane] = lane as u32);
+    assert_eq!(bench.run(5), (0, 5));
+    // Into the register that the addresses are in.
+    let mut bench = Bench::new(32, &[i("vlw12", 1, 1, 0)], 8);
+    bench.set_v(1, &[DATA + 1; 32]);
+    assert_eq!(bench.step(), 0);
+}
+
+/// The steps before a clash stay, and the prefix before the store is still pending.
+#[test]
+fn a_clash_ends_a_run_and_keeps_its_prefix() {
+    let kernel = [
+        v("vid.v", 2, 0, 0),
+        s("vsb12", 1, 3, 0),
+        table::regext(0, 0, 5), // xd, which a store has not
+        s("vsw12", 1, 2, 0),
+        ENDPRG,
+    ];
+    let mut bench = Bench::new(4, &kernel, 4);
+    bench.set_v(1, &[DATA; 4]);
+    bench.set_v(3, &[0x107, 7, 0x507, 7]);
+    assert_eq!(bench.run(9), (15, 3));
+    assert_eq!((bench.warp.pc, bench.warp.prefix), (CODE + 12, Prefix::RegExt(5)));
+    assert_eq!(bench.data, [7, 0, 0, 0]);
+    bench.refused(15);
+    bench.set_v(2, &[9; 4]);
+    assert_eq!(bench.run(9), (3, 2));
+    assert_eq!((bench.data[0], bench.warp.prefix), (9, Prefix::None));
+}
+
+/// At both ends of the space.
+#[test]
+fn clashes_at_the_ends_of_the_space() {
+    for base in [0, 0u32.wrapping_sub(8)] {
+        let mut l = launch(2);
+        l.fixed.data_base = base;
+        let mut bench = Bench::launched(&l, &[s("vsw12", 1, 2, 0)], 8);
+        bench.set_v(1, &[base + 4, base + 1]);
+        bench.set_v(2, &[0x4433_2211, 0x8811_7766]);
+        bench.refused(15);
+        bench.set_v(2, &[0x4433_2211, 0x1188_7766]);
+        assert_eq!(bench.step(), 0);
+        assert_eq!(bench.data, [0, 0x66, 0x77, 0x88, 0x11, 0x22, 0x33, 0x44]);
+        // What a store past the end would meet at the beginning is not there.
+        bench.warp.pc = CODE;
+        bench.set_v(1, &[base + 5, base]);
+        bench.refused(9);
+    }
+}
+
+/// Any lanes at any places of a few: clashing where some byte gets two values, and else each byte
+/// gets its value.
+#[test]
+fn stores_by_the_byte() {
+    let mut draw = any_words(0x0bad_cafe);
+    let mut met = [0; 2];
+    for n in 0..30_000 {
+        let (name, size) = STORES[n % 3];
+        let (numt, room) = (1 + draw() % 32, [2, 8, 40, 250][draw() as usize % 4]);
+        let few = [1, 3, 0xff][draw() as usize % 3];
+        let at: Vec<u32> = (0..numt).map(|_| draw() % room).collect();
+        let values: Vec<u32> =
+            (0..numt).map(|_| draw() & 0x0101_0101 * few | 0x8000_0000).collect();
+        let mut l = launch(numt);
+        l.fixed.mask = draw() & l.fixed.mask | 1 << (draw() % numt);
+        let mut bench = Bench::launched(&l, &[s(name, 1, 2, 0)], 256);
+        bench.set_v(1, &at.iter().map(|at| DATA + at).collect::<Vec<_>>());
+        bench.set_v(2, &values);
+        let mut bytes = vec![None; 256];
+        let mut clash = false;
+        for lane in (0..numt as usize).filter(|lane| l.fixed.mask >> lane & 1 == 1) {
+            for byte in 0..size {
+                let value = values[lane].to_le_bytes()[byte];
+                let place = &mut bytes[at[lane] as usize + byte];
+                clash |= place.map_or(false, |other| other != value);
+                *place = Some(value);
+            }
+        }
+        met[usize::from(clash)] += 1;
+        if clash {
+            bench.refused(15);
+        } else {
+            assert_eq!(bench.step(), 0);
+            assert!(bench.data.iter().zip(&bytes).all(|(is, byte)| *is == byte.unwrap_or(0)));
+        }
+    }
+    assert!(met.iter().all(|times| *times > 3_000), "{met:?}");
 }
 
 /// The private accesses and their sizes.
@@ -663,10 +915,73 @@ fn private_sums_and_addresses_wrap() {
 /// Three times 5555_5554 is 4 below 2^32: lane by lane, the words fall on one place.
 #[test]
 fn private_words_meet_by_wrapping_alone() {
-    let mut bench = private_bench(&private_launch(3, DATA), "vsw.p", 0, 4);
-    bench.set_v(1, &[0, 0x5555_5554, 0xaaaa_aaa8]);
-    assert_eq!(bench.step(), 0);
-    assert_eq!(bench.data, [0xa2; 4]);
+    for (name, size) in PRIVATE.into_iter().filter(|(name, _)| name.starts_with("vs")) {
+        let sums = [0, 0x5555_5554, 0xaaaa_aaa8];
+        let mut bench = private_bench(&private_launch(3, DATA), name, 0, 4);
+        bench.set_v(1, &sums);
+        bench.refused(15);
+        bench.set_v(2, &[0xa2a2_a2a2; 3]);
+        assert_eq!(bench.step(), 0);
+        assert_eq!(bench.data[..size as usize], [0xa2; 4][..size as usize]);
+        // One lane of the three is elsewhere, or not active.
+        let mut l = private_launch(3, DATA);
+        for lane in 0..3 {
+            let mut bench = private_bench(&private_launch(3, DATA), name, 0, 64);
+            bench.set_v(1, &sums);
+            bench.vector[32 + lane] = 16;
+            bench.refused(15);
+            bench.vector[64 + (lane + 1) % 3] = bench.v(2, (lane + 2) % 3);
+            assert_eq!(bench.step(), 0);
+            l.fixed.mask = 1 << lane;
+            let mut bench = private_bench(&l, name, 0, 4);
+            bench.set_v(1, &sums);
+            assert_eq!(bench.step(), 0);
+        }
+    }
+}
+
+/// Private bytes and halves in one word meet by their places in it.
+#[test]
+fn private_bytes_and_halves_meet_in_a_word() {
+    let meet = |name: &str, places: [u32; 2], values: [u32; 2], number: u32| {
+        // 5 times 9999_9998 is 8 below a multiple of 2^32: lane 2 is back at lane 0's word.
+        let mut l = private_launch(5, DATA);
+        l.fixed.mask = 0b101;
+        let mut bench = Bench::launched(&l, &[private(name, 0)], 8);
+        bench.set_v(1, &[places[0], 0, 0x9999_9998 + places[1]]);
+        bench.set_v(2, &[values[0], 0, values[1]]);
+        assert_eq!(bench.step(), number, "{name} at {places:?}");
+        bench.data
+    };
+    for one in 0..4 {
+        for other in 0..4 {
+            meet("vsb.p", [one, other], [1, 2], if one == other { 15 } else { 0 });
+            meet("vsb.p", [one, other], [1, 0x101], 0);
+        }
+    }
+    for one in 0..3u32 {
+        for other in 0..3u32 {
+            let number = if one.abs_diff(other) < 2 { 15 } else { 0 };
+            meet("vsh.p", [one, other], [0x0102, 0x0304], number);
+        }
+    }
+    assert_eq!(meet("vsh.p", [0, 1], [0x2211, 0x3322], 0)[..4], [0x11, 0x22, 0x33, 0]);
+    assert_eq!(meet("vsh.p", [2, 1], [0x3322, 0x2211], 0)[..4], [0, 0x11, 0x22, 0x33]);
+    meet("vsh.p", [2, 1], [0x3322, 0x2311], 15);
+}
+
+/// Lanes 0 and 1 meet and differ; what lane 2 does is told first.
+#[test]
+fn crossing_and_outside_come_before_a_clash() {
+    for (name, size) in PRIVATE.into_iter().filter(|(name, _)| name.starts_with("vs")) {
+        for (sum, number) in [(0, 15), (5 - size, 14), (1 << 20, 9), ((1 << 20) + 5 - size, 14)] {
+            let number = if size == 1 && number == 14 { 9 } else { number };
+            // u of 4 is no crossing for a byte, and outside here.
+            let mut bench = private_bench(&private_launch(3, DATA), name, 0, 12);
+            bench.set_v(1, &[0, 0x5555_5554, sum]);
+            bench.refused(number);
+        }
+    }
 }
 
 #[test]

@@ -150,7 +150,7 @@ fn grouped(name: &str, files: &[(&str, &[u8])]) -> String {
 
 #[test]
 fn the_example_groups_print_what_is_stored() {
-    for name in ["group_sum", "group_race", "group_ended", "group_stop"] {
+    for name in ["group_sum", "group_race", "group_ended", "group_stop", "group_clash"] {
         let expected = std::fs::read_to_string(example(name, "expected.txt")).expect("the lines");
         assert_eq!(group_printout(&example(name, "")), expected, "{name}");
     }

@@ -43,6 +43,15 @@ first-silent (r ∷ rs) us e = go (r .is) e (λ h. first-silent rs us h)
     go true h k = absurd (true≢false (sym h))
     go false h k = k h
 
+-- a list that answers answers so with more rows behind it
+pub first-kept : (rs us : List (Row Bool)) → (first rs ≡ 0 → ⊥) → first (rs ++ us) ≡ first rs
+first-kept [] us n = absurd (n refl)
+first-kept (r ∷ rs) us n = go (r .is) n (λ h. first-kept rs us h)
+  where
+    go : (t : Bool) → (cond t (r .code) (first rs) ≡ 0 → ⊥) → ((first rs ≡ 0 → ⊥) → first (rs ++ us) ≡ first rs) → cond t (r .code) (first (rs ++ us)) ≡ cond t (r .code) (first rs)
+    go true h k = refl
+    go false h k = k h
+
 -- where a number is not 0, a list with no row 0 that answers 0 is silent
 pub zero-silent : (rs : List (Row Bool)) → without 0 rs ≡ true → first rs ≡ 0 → silent rs ≡ true
 zero-silent [] n e = refl

@@ -1,7 +1,7 @@
 -- The number of each refusal and of each answer.
 use Prim.Native.Nat.{ℕ}
 use Rattle.answer.specs.declared.Refusal.{Refusal}
-use Rattle.answer.specs.declared.Refusal.the-variants.{Size, Malformed, Ended, Waiting, OffKernel, Unknown, BadCsr, BadTarget, Outside, Differing, SplitOpen, NotWaiting, BadCard, Crossing, BadSheet, NoSteps}
+use Rattle.answer.specs.declared.Refusal.the-variants.{Size, Malformed, Ended, Waiting, OffKernel, Unknown, BadCsr, BadTarget, Outside, Differing, SplitOpen, NotWaiting, BadCard, Crossing, Clashing, BadSheet, NoSteps}
 use Rattle.answer.specs.declared.Answer.{Answer}
 use Rattle.answer.specs.declared.Answer.the-variants.{Done, Refused}
 
@@ -20,12 +20,13 @@ refusalOf SplitOpen = 11
 refusalOf NotWaiting = 12
 refusalOf BadCard = 13
 refusalOf Crossing = 14
+refusalOf Clashing = 15
 refusalOf BadSheet = 16
 refusalOf NoSteps = 17
 
 -- the largest that a step or a run answers
 abbrev pub lastStepNumber : ℕ
-lastStepNumber = 14
+lastStepNumber = 15
 
 abbrev pub numberOf : Answer → ℕ
 numberOf Done = 0

@@ -3,7 +3,7 @@ ghost use mathlib.Core.Path.{_≡_};
 ghost use Prim.Native.Nat.{_≤_};
 ghost use Rattle.answer.specs.Answer.{refusalOf, numberOf, lastStepNumber};
 
-// Why a call was refused: 1 to 14, then 16 and 17, in this order.
+// Why a call was refused: 1 to 17, in this order.
 pub enum Refusal {
     Size,
     Malformed,
@@ -19,6 +19,7 @@ pub enum Refusal {
     NotWaiting,
     BadCard,
     Crossing,
+    Clashing,
     BadSheet,
     NoSteps,
 }
@@ -59,6 +60,8 @@ pub const BAD_CARD: u32 = 13;
 
 pub const CROSSING: u32 = 14;
 
+pub const CLASHING: u32 = 15;
+
 pub const BAD_SHEET: u32 = 16;
 
 pub const NO_STEPS: u32 = 17;
@@ -81,6 +84,7 @@ fn refusal_number(r: Refusal) -> u32
         Refusal::NotWaiting => NOT_WAITING,
         Refusal::BadCard => BAD_CARD,
         Refusal::Crossing => CROSSING,
+        Refusal::Clashing => CLASHING,
         Refusal::BadSheet => BAD_SHEET,
         Refusal::NoSteps => NO_STEPS,
     }
@@ -115,6 +119,7 @@ pub fn answer_of(code: u32) -> Answer
         SPLIT_OPEN => Answer::Refused(Refusal::SplitOpen),
         NOT_WAITING => Answer::Refused(Refusal::NotWaiting),
         BAD_CARD => Answer::Refused(Refusal::BadCard),
-        _ => Answer::Refused(Refusal::Crossing),
+        CROSSING => Answer::Refused(Refusal::Crossing),
+        _ => Answer::Refused(Refusal::Clashing),
     }
 }

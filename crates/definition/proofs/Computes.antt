@@ -5,9 +5,10 @@ use Rattle.isa.specs.Vector as Vector
 use Rattle.isa.specs.Ventus as Ventus
 use Rattle.isa.specs.Prefix.{prefixed}
 use Rattle.lanes.specs.Mask.{bitAt}
-use Rattle.lanes.specs.Lanes.{eachLane, allLanes}
+use Rattle.lanes.specs.Lanes.{eachLane, allBelow}
 use Rattle.memory.specs.Bytes.{leBytes}
 use Rattle.memory.specs.Memories.{loadFrom, storeTo}
+use Rattle.memory.specs.LaneAccess.{agreeOf}
 use Rattle.warp.specs.Warp.{zeroWarp}
 use Rattle.warp.specs.WellFormed.{fixedOkOf, splitOkOf, chainOf, allZero, prefixOkOf, wellFormedOf}
 use Rattle.warp.specs.Splits.{openOf, parted, joinOf, setRpcOf}
@@ -22,5 +23,5 @@ unfolding decodeOf Scalar.jalrWord Scalar.branchWord Scalar.loadWord Scalar.stor
 computed-words = Unit {0}
 
 unfoldable pub computes : Type 0
-unfolding computed-words prefixed prefixOkOf bitAt eachLane allLanes leBytes loadFrom storeTo zeroWarp fixedOkOf splitOkOf chainOf allZero wellFormedOf openOf parted joinOf setRpcOf csrAt csrDone runsOkOf refusalsOf effectOf stepOf launchOf stepsOf runOf releaseOf
+unfolding computed-words prefixed prefixOkOf bitAt eachLane allBelow leBytes loadFrom storeTo agreeOf zeroWarp fixedOkOf splitOkOf chainOf allZero wellFormedOf openOf parted joinOf setRpcOf csrAt csrDone runsOkOf refusalsOf effectOf stepOf launchOf stepsOf runOf releaseOf
 computes = Unit {0}

@@ -14,7 +14,7 @@ use Rattle.lanes.specs.declared.Lane.{Lane}
 use Rattle.memory.specs.LaneAccess.{allInside}
 use Rattle.memory.proofs.Access.{inside-true, all-inside-at, inside-at, bytes-at}
 use Rattle.definition.specs.State.{State, fixedOf, active, memoryOf, scalarAt, laneAt, instrAt}
-use Rattle.definition.specs.Refuse.{someCrosses, refusalsOf}
+use Rattle.definition.specs.Refuse.{someCrosses, someClash, refusalsOf}
 use Rattle.definition.specs.Step.{stepOf}
 use Rattle.definition.proofs.Target.{Target, nothing, scalar, split, lanes, bytes, targetOf}
 use Rattle.definition.proofs.Sound.{step-clear}
@@ -67,7 +67,7 @@ module _ (m : State) where
   lies (I.VLoad s k r a n) h = tt
   lies (I.RegExt n) h = tt
   lies (I.RegExtI n) h = tt
-  lies (I.VStore s k a b n) h = each (widthOf k) (laneAt s a n m) (passed (14 ⇒ someCrosses s (widthOf k) a n m ∷ []) [] 9 (allFit (widthOf k) (laneAt s a n m)) refl h)
+  lies (I.VStore s k a b n) h = each (widthOf k) (laneAt s a n m) (passed (14 ⇒ someCrosses s (widthOf k) a n m ∷ []) (15 ⇒ someClash k (laneAt s a n m) b m ∷ []) 9 (allFit (widthOf k) (laneAt s a n m)) refl h)
 
 -- A taken step overwrites bytes of the memories alone.
 pub step-inside : (k : List ℕ) (m : State) → stepOf k m .code ≡ 0 → Lies m (targetOf (instrAt k m) m)

@@ -1,5 +1,5 @@
--- What a store leaves where none of its tests holds: each byte of its access is the word's, but for those that a higher active lane's access has too.
-use Prim.Native.Nat.{ℕ, _+_, _≤_, _<_}
+-- What a store leaves where none of its tests holds: each byte of its access is the word's, of each active lane's access that lane's.
+use Prim.Native.Nat.{ℕ, _+_, _<_}
 use mathlib.Core.Path.{_≡_, refl, sym}
 use mathlib.Core.Bool.{true}
 use mathlib.Core.List.{[], _∷_}
@@ -16,11 +16,11 @@ use Rattle.lanes.specs.Lanes.{laneOf}
 use Rattle.memory.specs.Bytes.{leBytes}
 use Rattle.memory.specs.Memory.{widthOf, indexIn}
 use Rattle.memory.specs.Memories.{Region, bytesAt, memoryAt, insideOne, regionOf}
-use Rattle.memory.specs.LaneAccess.{allInside}
+use Rattle.memory.specs.LaneAccess.{allInside, allAgree}
 use Rattle.memory.proofs.Access.{inside-true, inside-at, bytes-at}
-use Rattle.memory.proofs.Laws.{to-at, lanes-highest}
+use Rattle.memory.proofs.Laws.{to-at, lanes-stored}
 use Rattle.definition.specs.State.{State, fixedOf, active, xOf, memoryOf, scalarAt, laneAt}
-use Rattle.definition.specs.Refuse.{someCrosses, refusalsOf}
+use Rattle.definition.specs.Refuse.{someCrosses, someOutside, someClash, refusalsOf}
 use Rattle.definition.specs.Exec.{effect, effectOf}
 
 module _ (m : State) where
@@ -43,10 +43,14 @@ module _ (m : State) where
 
     pub lanes-inside : allInside (fixedOf m .numt) (active m) (insideOne (memoryOf m) (widthOf k)) at ≡ true
     unfolding refusalsOf
-    lanes-inside = passed (14 ⇒ someCrosses s (widthOf k) x n m ∷ []) [] 9 (allInside (fixedOf m .numt) (active m) (insideOne (memoryOf m) (widthOf k)) at) refl h
+    lanes-inside =
+        passed (14 ⇒ someCrosses s (widthOf k) x n m ∷ []) (15 ⇒ someClash k at y m ∷ []) 9 (allInside (fixedOf m .numt) (active m) (insideOne (memoryOf m) (widthOf k)) at) refl h
+
+    pub lanes-agree : allAgree (fixedOf m .numt) (active m) k at (laneOf (m .vector) y) ≡ true
+    unfolding refusalsOf
+    lanes-agree = passed (14 ⇒ someCrosses s (widthOf k) x n m ∷ 9 ⇒ someOutside (widthOf k) at m ∷ []) [] 15 (allAgree (fixedOf m .numt) (active m) k at (laneOf (m .vector) y)) refl h
 
     pub lane-stored : (l : Lane) → l .0 < fixedOf m .numt → active m l ≡ true → (r : Region) → regionOf (memoryOf m) (widthOf k) (at l) ≡ r → (j : ℕ) → j < widthOf k
-        → ((i : Lane) → l .0 < i .0 → i .0 < fixedOf m .numt → active m i ≡ true → at i ≤ at l + j → at l + j < at i + widthOf k → ⊥)
         → getD (bytesAt r (effect (effectOf (I.VStore s k x y n) m) m .bytes)) (indexIn (memoryAt r (memoryOf m)) (at l) + j) 0 ≡ getD (leBytes (widthOf k) (laneOf (m .vector) y l)) j 0
     unfolding effectOf
-    lane-stored = lanes-highest (fixedOf m .numt) (active m) k at (laneOf (m .vector) y) (memoryOf m) (sym lanes-inside)
+    lane-stored = lanes-stored (fixedOf m .numt) (active m) k at (laneOf (m .vector) y) (memoryOf m) (sym lanes-inside) (sym lanes-agree)

@@ -79,13 +79,14 @@ step-known k m =
 pub step-last : (k : List ℕ) (m : State) → stepOf k m .code ≤ lastStepNumber
 step-last k m = leb-true _ _ (one-holds (λ n. leb n lastStepNumber) (0 ∷ stepNumbers) refl (stepOf k m .code) (step-known k m))
 
--- An access by lanes that crosses a word boundary is refused for that, wherever its lanes' accesses lie.
-pub crosses-first : (s : Space) (n : ℕ) (a : VReg) (off : ℕ) (m : State) → someCrosses s n a off m ≡ true → first (accessTests s n a off m) ≡ 14
-crosses-first s n a off m e = rw e
+-- An access by lanes that crosses a word boundary is refused for that, wherever its lanes' accesses lie and whatever else is tested.
+pub crosses-first : (s : Space) (n : ℕ) (a : VReg) (off : ℕ) (m : State) (rs : List (Row Bool)) → someCrosses s n a off m ≡ true → first (accessTests s n a off m ++ rs) ≡ 14
+crosses-first s n a off m rs e = rw e
 
--- Where none crosses, 9 decides.
-pub crosses-not : (s : Space) (n : ℕ) (a : VReg) (off : ℕ) (m : State) → someCrosses s n a off m ≡ false → first (accessTests s n a off m) ≡ first (9 ⇒ someOutside n (laneAt s a off m) m ∷ [])
-crosses-not s n a off m e = rw e
+-- Where none crosses, 9 decides, and then what else is tested.
+pub crosses-not : (s : Space) (n : ℕ) (a : VReg) (off : ℕ) (m : State) (rs : List (Row Bool)) → someCrosses s n a off m ≡ false
+    → first (accessTests s n a off m ++ rs) ≡ first (9 ⇒ someOutside n (laneAt s a off m) m ∷ rs)
+crosses-not s n a off m rs e = rw e
 
 -- ---- 'when, and only when', row by row
 

@@ -10,12 +10,13 @@ use Rattle.isa.specs.declared.CsrOp.{CsrOp}
 use Rattle.isa.specs.declared.Instr.{Instr}
 use Rattle.isa.specs.declared.Instr.the-variants as I
 use Rattle.isa.specs.declared.Space.{Space}
+use Rattle.isa.specs.declared.StoreOp.{StoreOp}
 use Rattle.isa.specs.declared.VReg.{VReg}
 use Rattle.lanes.specs.declared.Lane.{Lane}
 use Rattle.lanes.specs.Lanes.{fileWords, laneOf, uniformOf}
 use Rattle.memory.specs.Memory.{sizeOf, widthOf}
 use Rattle.memory.specs.Memories.{Contents, memoriesOkOf, insideOne}
-use Rattle.memory.specs.LaneAccess.{allInside, allInWord}
+use Rattle.memory.specs.LaneAccess.{allInside, allInWord, allAgree}
 use Rattle.warp.specs.declared.Fixed.{Fixed}
 use Rattle.warp.specs.declared.Launch.{Launch}
 use Rattle.warp.specs.declared.Warp.{Warp}
@@ -52,7 +53,7 @@ onKernel k w = leb (w .fixed .codeBase) (w .pc) && ltb (placeOf w) (length k)
 abbrev pub fetchTests : List ℕ → Warp → List (Row Bool)
 fetchTests k w = 3 ⇒ w .ended ∷ 4 ⇒ w .waiting ∷ 5 ⇒ not (onKernel k w) ∷ []
 
--- ---- 6 to 11 and 14: the word's own, one line an instruction; Refused is a word that isn't in the tables, or that doesn't take the pending prefix
+-- ---- 6 to 11, 14 and 15: the word's own, one line an instruction; Refused is a word that isn't in the tables, or that doesn't take the pending prefix
 
 -- CSR number outside 0x800 to 0x80C, or a write to one other than PRINT and RPC
 abbrev pub noCsr : CsrOp → ℕ → ℕ → Bool
@@ -76,6 +77,14 @@ someCrosses s n a off m = not (allInWord (fixedOf m .numt) (active m) s n (laneO
 -- an access by lanes, of n bytes each
 abbrev pub accessTests : Space → ℕ → VReg → ℕ → State → List (Row Bool)
 accessTests s n a off m = 14 ⇒ someCrosses s n a off m ∷ 9 ⇒ someOutside n (laneAt s a off m) m ∷ []
+
+-- two active lanes store different values to one byte: their words in register b, at the addresses `at`
+abbrev pub someClash : StoreOp → (Lane → ℕ) → VReg → State → Bool
+someClash k at b m = not (allAgree (fixedOf m .numt) (active m) k at (laneOf (m .vector) b))
+
+-- a store by lanes
+abbrev pub storeTests : Space → StoreOp → VReg → VReg → ℕ → State → List (Row Bool)
+storeTests s k a b off m = accessTests s (widthOf k) a off m ++ (15 ⇒ someClash k (laneAt s a off m) b m ∷ [])
 
 -- the active lanes' words differ
 abbrev pub mixed : (Lane → ℕ) → State → Bool
@@ -110,7 +119,7 @@ refusalsOf (I.SetRpc r a n) m = []
 refusalsOf I.EndPrg m = 11 ⇒ inSplit m ∷ []
 refusalsOf (I.Barrier n) m = 11 ⇒ inSplit m ∷ []
 refusalsOf (I.VLoad s k r a n) m = accessTests s (sizeOf k) a n m
-refusalsOf (I.VStore s k a b n) m = accessTests s (widthOf k) a n m
+refusalsOf (I.VStore s k a b n) m = storeTests s k a b n m
 refusalsOf (I.RegExt n) m = []
 refusalsOf (I.RegExtI n) m = []
 
@@ -125,7 +134,7 @@ testsOf k m = stepTests k m ++ refusalsOf (instrAt k m) m
 
 -- its numbers
 abbrev pub stepNumbers : List ℕ
-stepNumbers = 1 ∷ 2 ∷ 3 ∷ 4 ∷ 5 ∷ 6 ∷ 7 ∷ 8 ∷ 9 ∷ 10 ∷ 11 ∷ 14 ∷ []
+stepNumbers = 1 ∷ 2 ∷ 3 ∷ 4 ∷ 5 ∷ 6 ∷ 7 ∷ 8 ∷ 9 ∷ 10 ∷ 11 ∷ 14 ∷ 15 ∷ []
 
 -- a launch: 1 for a size, and 1 for a launch value out of range
 abbrev pub launchTests : List ℕ → Launch → List ℕ → Contents → List (Row Bool)

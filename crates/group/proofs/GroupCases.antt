@@ -15,7 +15,8 @@ use Rattle.definition.specs.State.{Outcome}
 use Rattle.definition.specs.Step.{stepOf}
 use Rattle.definition.specs.Calls.{launchedOf}
 use Rattle.group.specs.Group.{Group, group, fixedsOf, fileStart, stateAt, allEnded, pickOf, goneOn}
-use Rattle.group.specs.GroupRefuse.{allBelow, sizesOkOf, placedOf, formedOf}
+use Rattle.lanes.specs.Lanes.{allBelow}
+use Rattle.group.specs.GroupRefuse.{sizesOkOf, placedOf, formedOf}
 use Rattle.group.specs.GroupCalls.{GroupOutcome, groupOutcome, groupStepOf, GroupRan, groupRan, groupStepsOf, groupRunOf, groupLaunchOf}
 use Rattle.group.proofs.GroupLaws.{by-test, by-equal}
 

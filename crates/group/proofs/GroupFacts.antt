@@ -18,8 +18,10 @@ use Rattle.warp.specs.WellFormed.{fixedOkOf, chainOf, allZero, prefixOkOf, well
 use Rattle.definition.specs.Refuse.{runsOkOf}
 use Rattle.group.specs.Group.{Group, countOf, warpAt, fixedsOf, fileStart, fileAt, someRuns, allEnded}
 use Rattle.group.specs.Places.{InPlace}
-use Rattle.group.specs.GroupRefuse.{warpsLimit, allBelow, fixedAt, sizesOkOf, inPlaceOf, placedOf, goesOnOf, formedOf}
-use Rattle.group.proofs.GroupLaws.{by-test, below-at, below-all, fixed-at}
+use Rattle.lanes.specs.Lanes.{allBelow}
+use Rattle.lanes.proofs.Laws.{below-at, below-all}
+use Rattle.group.specs.GroupRefuse.{warpsLimit, fixedAt, sizesOkOf, inPlaceOf, placedOf, goesOnOf, formedOf}
+use Rattle.group.proofs.GroupLaws.{by-test, fixed-at}
 
 -- the tests of a well-formed warp
 abbrev wellTests : Warp → List Bool

@@ -15,7 +15,7 @@ use Rattle.warp.specs.declared.Warp.{Warp}
 use Rattle.warp.specs.Warp.{zeroWarp, zeroFixed, withStop}
 use Rattle.definition.specs.State.{State}
 use Rattle.group.specs.Group.{Group, group, countOf, warpAt, fixedsOf, fileStart, fileAt, withFileAt, runs, someRuns, allEnded, nextOf, firstFrom, pickOf, freed, settled, goneOn}
-use Rattle.group.specs.GroupRefuse.{allBelow, fixedAt}
+use Rattle.group.specs.GroupRefuse.{fixedAt}
 
 -- ---- by cases
 
@@ -29,28 +29,6 @@ by-equal i j f g = by-test (eqb i j) (λ e. f (eqb-true i j e)) (λ e. g (eqb-fa
 -- a test that isn't both
 pub refute : {A : Type 0} {t : Bool} → t ≡ true → t ≡ false → A
 refute p q = absurd (true≢false (sym p ∙ q))
-
--- ---- a test of every number below n
-
-pub below-at : (n : ℕ) (p : ℕ → Bool) → allBelow n p ≡ true → (i : ℕ) → i < n → p i ≡ true
-unfolding allBelow
-below-at zero p e i h = absurd (omega arith)
-below-at (suc n) p e i h =
-    let q = both (allBelow n p) (p n) e in
-    by-equal i n (λ z. rw z (q .1)) (λ z. below-at n p (q .0) i (omega arith))
-
-pub below-all : (n : ℕ) (p : ℕ → Bool) → ((i : ℕ) → i < n → p i ≡ true) → allBelow n p ≡ true
-unfolding allBelow
-below-all zero p f = refl
-below-all (suc n) p f = rw (below-all n p (λ i h. f i (omega arith)), f n (omega arith))
-
-pub below-not : (n : ℕ) (p : ℕ → Bool) (i : ℕ) → i < n → p i ≡ false → allBelow n p ≡ false
-below-not n p i h e = by-test (allBelow n p) (λ t. refute (below-at n p t i h) e) (λ t. t)
-
-pub below-same : (n : ℕ) (p q : ℕ → Bool) → ((i : ℕ) → i < n → p i ≡ q i) → allBelow n p ≡ allBelow n q
-unfolding allBelow
-below-same zero p q f = refl
-below-same (suc n) p q f = rw (below-same n p q (λ i h. f i (omega arith)), f n (omega arith))
 
 -- ---- elements of lists
 

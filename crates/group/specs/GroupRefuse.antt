@@ -1,10 +1,11 @@
 -- When a group's calls are refused, in the order tested.
-use Prim.Native.Nat.{ℕ, zero, suc}
-use mathlib.Core.Bool.{Bool, true, not, _&&_, _||_}
+use Prim.Native.Nat.{ℕ}
+use mathlib.Core.Bool.{Bool, not, _&&_, _||_}
 use mathlib.Core.List.{List, [], _∷_, map, _++_}
 use lib.Dec.{eqb, ltb}
 use lib.ListN.{length, getD}
 use Rattle.answer.specs.Rows.{Row, _⇒_, every, between}
+use Rattle.lanes.specs.Lanes.{allBelow}
 use Rattle.memory.specs.Memories.{Contents}
 use Rattle.warp.specs.declared.Fixed.{Fixed}
 use Rattle.warp.specs.declared.Launch.{Launch}
@@ -16,11 +17,6 @@ use Rattle.group.specs.Group.{Group, countOf, warpAt, fixedsOf, fileStar
 -- the most warps of a group
 abbrev pub warpsLimit : ℕ
 warpsLimit = maxWarps
-
--- p holds of every number below n
-unfoldable pub allBelow : ℕ → (ℕ → Bool) → Bool
-allBelow zero p = true
-allBelow (suc n) p = allBelow n p && p n
 
 abbrev pub fixedAt : List Fixed → ℕ → Fixed
 fixedAt fs i = getD fs i zeroFixed

@@ -7,6 +7,7 @@ use native.Mathlib.Omega.{arith}
 use lib.ListN.{length, take, drop, length-append, length-drop}
 use lib.Seq.{take-all, take-append-le, drop-append-le, drop-append-add, drop-at}
 use borrow.Author.Tests.{eq-eqb, le-leb}
+use Rattle.lanes.proofs.Laws.{below-all}
 use Rattle.memory.specs.Memories.{Contents}
 use Rattle.isa.specs.Bounds.{scalarRegisters}
 use Rattle.warp.specs.declared.Warp.{Warp}
@@ -15,7 +16,7 @@ use Rattle.layout.specs.Words.{stateWords, wordsOf, warpIn, soundIn}
 use Rattle.layout.proofs.Words.{words-warp, words-sound, words-long}
 use Rattle.group.specs.Group.{Group, group, countOf, warpAt}
 use Rattle.group.specs.GroupRefuse.{warpsLimit}
-use Rattle.group.proofs.GroupLaws.{by-equal, below-all}
+use Rattle.group.proofs.GroupLaws.{by-equal}
 use Rattle.group_words.specs.StateWords.{joined, stateWordsOf, groupWords}
 use Rattle.group_words.proofs.Tabulate.{tab-is}
 use Rattle.group_state.specs.GroupState.{countIn, isGroup, wordsIn, groupIn, allSoundIn}

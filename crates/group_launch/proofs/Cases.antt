@@ -11,7 +11,8 @@ use Rattle.definition.specs.Refuse.{runsOkOf}
 use Rattle.definition.specs.Calls.{launchedOf}
 use Rattle.card.specs.Card.{headOkAt, launchAt, readCardOf}
 use Rattle.card.proofs.Cases.{card}
-use Rattle.group.specs.GroupRefuse.{allBelow, sizesOkOf, placedOf}
+use Rattle.lanes.specs.Lanes.{allBelow}
+use Rattle.group.specs.GroupRefuse.{sizesOkOf, placedOf}
 use Rattle.group.specs.GroupCalls.{groupLaunchOf}
 use Rattle.group_words.specs.Row.{tabulate}
 use Rattle.group_launch.specs.GroupLaunchCall.{groupLaunchCalled, groupLaunchNumber, groupLaunchCallOf}

@@ -25,9 +25,11 @@ use Rattle.card.proofs.CardLaws.{read-number, read-done, Readable, accepted}
 use Rattle.saved.specs.Saved.{Saving, saving, saveOf}
 use Rattle.saved.proofs.SaveLaws.{save-done}
 use Rattle.group.specs.Group.{Group, group, fileStart}
-use Rattle.group.specs.GroupRefuse.{warpsLimit, allBelow, sizesOkOf, placedOf}
+use Rattle.lanes.specs.Lanes.{allBelow}
+use Rattle.lanes.proofs.Laws.{below-at, below-all}
+use Rattle.group.specs.GroupRefuse.{warpsLimit, sizesOkOf, placedOf}
 use Rattle.group.specs.GroupCalls.{GroupOutcome, groupLaunchOf}
-use Rattle.group.proofs.GroupLaws.{by-test, by-equal, below-at, below-all}
+use Rattle.group.proofs.GroupLaws.{by-test, by-equal}
 use Rattle.group.proofs.GroupFacts.{GroupSizes, group-sizes}
 use Rattle.group_words.specs.Row.{wordsAt, tabulate, fixedsIn}
 use Rattle.group_words.proofs.Tabulate.{tab-length, tab-at, tab-same, tab-map}

@@ -8,7 +8,7 @@ use Rattle.answer.specs.Rows.{_⇒_, first}
 use Rattle.memory.specs.Memories.{Contents}
 use Rattle.warp.specs.declared.Launch.{Launch}
 use Rattle.card.specs.Card.{cardSize, Reading, readCardOf}
-use Rattle.group.specs.GroupRefuse.{allBelow}
+use Rattle.lanes.specs.Lanes.{allBelow}
 use Rattle.group.specs.GroupCalls.{GroupOutcome, groupLaunchOf}
 use Rattle.group_words.specs.Row.{tabulate}
 use Rattle.group_words.specs.StateWords.{groupWords, stateWordsOf}

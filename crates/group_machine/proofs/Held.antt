@@ -17,9 +17,11 @@ use Rattle.formed.proofs.Formed.{deep-malformed}
 use Rattle.definition.proofs.Tests.{step-last}
 use Rattle.group.specs.Group.{group, fixedsOf}
 use Rattle.group.specs.Group as G
-use Rattle.group.specs.GroupRefuse.{warpsLimit, allBelow, sizesOkOf, formedOf}
+use Rattle.lanes.specs.Lanes.{allBelow}
+use Rattle.lanes.proofs.Laws.{below-all}
+use Rattle.group.specs.GroupRefuse.{warpsLimit, sizesOkOf, formedOf}
 use Rattle.group.specs.GroupCalls.{GroupOutcome, groupOutcome, groupStepOf, GroupRan, groupRan, groupStepsOf, groupRunOf}
-use Rattle.group.proofs.GroupLaws.{by-test, by-equal, refute, below-all}
+use Rattle.group.proofs.GroupLaws.{by-test, by-equal, refute}
 use Rattle.group.proofs.GroupFacts.{group-formed}
 use Rattle.group.proofs.GroupCases.{by-group-step, group-turn-end, group-turn-on, group-turn-off, group-run-size, group-run-malformed, group-run-steps, group-run-one}
 use Rattle.group_words.specs.Row.{Row, row, groupIn, warpsIn, fixedsIn, allSound}

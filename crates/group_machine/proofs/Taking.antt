@@ -14,8 +14,10 @@ use Rattle.warp.specs.Warp.{splitCount, zeroWarp, zeroFixed}
 use Rattle.layout.specs.Words.{fixedIn, fixedWords, warpOf, soundOf}
 use Rattle.layout.proofs.Words.{apart, apart-sound, flat-long}
 use Rattle.group.specs.Group.{group, fixedsOf}
-use Rattle.group.specs.GroupRefuse.{warpsLimit, allBelow}
-use Rattle.group.proofs.GroupLaws.{by-equal, getD-map-in, below-at}
+use Rattle.lanes.specs.Lanes.{allBelow}
+use Rattle.lanes.proofs.Laws.{below-at}
+use Rattle.group.specs.GroupRefuse.{warpsLimit}
+use Rattle.group.proofs.GroupLaws.{by-equal, getD-map-in}
 use Rattle.group_words.specs.Row.{Row, row, wordsAt, warpIn, warpsIn, fixedsIn, allSound, Rooms}
 use Rattle.group_words.proofs.Tabulate.{tab-is}
 use Rattle.group_words.proofs.Sound.{at-sound}

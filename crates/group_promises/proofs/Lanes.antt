@@ -6,6 +6,7 @@ use mathlib.Core.List.{List}
 use lib.ListN.{length, getD}
 use Rattle.lanes.specs.declared.Lane.{Lane}
 use Rattle.lanes.specs.Lanes.{fileWords, lanesMax}
+use Rattle.lanes.proofs.Laws.{below-same}
 use Rattle.memory.specs.Memories.{Contents, bytesAt}
 use Rattle.warp.specs.declared.Fixed.{Fixed}
 use Rattle.definition.specs.State.{Outcome, outcome}
@@ -16,7 +17,7 @@ use Rattle.promises.proofs.Lanes.{kept, unwritten, unfelt}
 use Rattle.group.specs.Group.{Group, group, countOf, fixedsOf, fileStart, fileAt, withFileAt, stateAt, pickOf, goneOn}
 use Rattle.group.specs.GroupRefuse.{fixedAt, sizesOkOf, formedOf}
 use Rattle.group.specs.GroupCalls.{GroupOutcome, groupOutcome, groupStepOf}
-use Rattle.group.proofs.GroupLaws.{by-equal, below-same, file-inside, file-put, file-other, length-put, length-file-kept, gone-on}
+use Rattle.group.proofs.GroupLaws.{by-equal, file-inside, file-put, file-other, length-put, length-file-kept, gone-on}
 use Rattle.group.proofs.GroupCases.{Ready, pickedStep, by-group-step, group-step-size, group-step-malformed, group-step-ended, group-step-taken, group-step-refused}
 use Rattle.group_promises.specs.Steps.{Leads}
 use Rattle.group_promises.specs.Lanes.{ButLane, GroupAlike, GroupLaneKept, GroupUnwritten, GroupUnfelt}

@@ -18,9 +18,11 @@ use Rattle.promises.specs.Reached as single
 use Rattle.promises.specs.Reached.{Reached, Sound}
 use Rattle.promises.proofs.Reached.{fit, reached-sound}
 use Rattle.group.specs.Group.{Group, group, countOf, fixedsOf, fileStart, fileAt, stateAt, someRuns}
-use Rattle.group.specs.GroupRefuse.{allBelow, sizesOkOf, placedOf}
+use Rattle.lanes.specs.Lanes.{allBelow}
+use Rattle.lanes.proofs.Laws.{below-at}
+use Rattle.group.specs.GroupRefuse.{sizesOkOf, placedOf}
 use Rattle.group.specs.GroupCalls.{GroupOutcome, groupLaunchOf}
-use Rattle.group.proofs.GroupLaws.{below-at, getD-map-in, file-zeros, some-runs}
+use Rattle.group.proofs.GroupLaws.{getD-map-in, file-zeros, some-runs}
 use Rattle.group.proofs.GroupFacts.{GroupSizes, group-sizes, fit-sizes, fit-formed, goes-on}
 use Rattle.group_promises.specs.Reached.{GroupReached, launched, goes, launchAt, WarpReached, GroupReachedSound}
 use Rattle.group_promises.proofs.Refusals.{group-launch-refusals}

@@ -16,7 +16,8 @@ use Rattle.definition.specs.Refuse.{stepNumbers}
 use Rattle.definition.specs.Step.{stepOf}
 use Rattle.promises.proofs.Refusals.{is-zero, step-refusals, step-answers}
 use Rattle.group.specs.Group.{Group, warpAt, stateAt, pickOf}
-use Rattle.group.specs.GroupRefuse.{allBelow, sizesOkOf, placedOf, groupTests, groupStepTests}
+use Rattle.lanes.specs.Lanes.{allBelow}
+use Rattle.group.specs.GroupRefuse.{sizesOkOf, placedOf, groupTests, groupStepTests}
 use Rattle.group.specs.GroupCalls.{GroupRan, groupStepOf, groupStepsOf, groupRunOf, groupLaunchOf}
 use Rattle.group.proofs.GroupLaws.{refute, runs-is}
 use Rattle.group.proofs.GroupFacts.{GroupFit, placed-at, all-placed, fit-place}

@@ -13,7 +13,8 @@ use Rattle.warp.specs.WellFormed.{launchOkOf}
 use Rattle.definition.specs.Step.{stepOf}
 use Rattle.definition.specs.Calls.{launchedOf}
 use Rattle.group.specs.Group.{Group, group, warpAt, fixedsOf, fileStart, stateAt, allEnded}
-use Rattle.group.specs.GroupRefuse.{allBelow, fixedAt, sizesOkOf, placedOf, formedOf, groupStepTests}
+use Rattle.lanes.specs.Lanes.{allBelow}
+use Rattle.group.specs.GroupRefuse.{fixedAt, sizesOkOf, placedOf, formedOf, groupStepTests}
 use Rattle.group.specs.Places.{InPlace}
 use Rattle.group.specs.GroupCalls.{GroupOutcome, groupOutcome, groupStepOf, groupRunOf, groupLaunchOf}
 use Rattle.group_promises.specs.Steps.{Picked}
@@ -40,7 +41,7 @@ GroupRefusals = (k : List ℕ) (m : Group) → GroupRows k m (groupStepOf k m)
 
 -- the numbers of a group's step and run; a picked warp neither waits nor has ended: 4 is none of them
 abbrev pub groupNumbers : List ℕ
-groupNumbers = 1 ∷ 2 ∷ 3 ∷ 5 ∷ 6 ∷ 7 ∷ 8 ∷ 9 ∷ 10 ∷ 11 ∷ 14 ∷ []
+groupNumbers = 1 ∷ 2 ∷ 3 ∷ 5 ∷ 6 ∷ 7 ∷ 8 ∷ 9 ∷ 10 ∷ 11 ∷ 14 ∷ 15 ∷ []
 
 -- A group's step and run answer 0 or one of these.
 abbrev pub GroupAnswers : Type 0

@@ -11,15 +11,16 @@ use lib.Seq.{length-take-le, drop-drop}
 use borrow.Author.Tests.{eqb-true, leb-true, ltb-false}
 use Rattle.answer.specs.Rows.{first, between}
 use Rattle.answer.proofs.Rows.{both}
+use Rattle.lanes.proofs.Laws.{below-same, below-at}
 use Rattle.memory.specs.Memories.{Contents}
 use Rattle.warp.specs.declared.Warp.{Warp}
 use Rattle.warp.specs.Warp.{zeroWarp}
 use Rattle.layout.specs.Words.{stateWords, scalarPart, splitPart, movingPart, fixedPart, wordsOf, warpIn as warpOn, soundIn, warpOf, soundOf}
 use Rattle.layout.proofs.Words.{together-words, parts-whole, split-long, moving-long, fixed-long, warp-words}
 use Rattle.group.specs.Group.{Group, group, countOf, warpAt, fixedsOf}
-use Rattle.group.specs.GroupRefuse.{warpsLimit, allBelow, sizesOkOf}
+use Rattle.group.specs.GroupRefuse.{warpsLimit, sizesOkOf}
 use Rattle.group.specs.GroupCalls.{GroupOutcome, groupOutcome, GroupRan, groupRan, groupRunOf}
-use Rattle.group.proofs.GroupLaws.{by-test, below-same, below-at}
+use Rattle.group.proofs.GroupLaws.{by-test}
 use Rattle.group.proofs.GroupCases.{group-run-size, group-run-one}
 use Rattle.group_words.specs.Row.{Row, row, wordsAt, tabulate, warpIn, groupIn as rowGroup, Rooms, allSound, fixedsIn}
 use Rattle.group_drive.specs.GroupDrives.{groupWordsRunOf, GroupRuns}

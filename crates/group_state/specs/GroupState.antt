@@ -9,7 +9,8 @@ use Rattle.memory.specs.Memories.{Contents}
 use Rattle.warp.specs.declared.Warp.{Warp}
 use Rattle.layout.specs.Words.{stateWords, warpIn, soundIn}
 use Rattle.group.specs.Group.{Group, group, fixedsOf}
-use Rattle.group.specs.GroupRefuse.{warpsLimit, allBelow, sizesOkOf}
+use Rattle.lanes.specs.Lanes.{allBelow}
+use Rattle.group.specs.GroupRefuse.{warpsLimit, sizesOkOf}
 use Rattle.group.specs.GroupCalls.{GroupOutcome, groupStepOf, GroupRan, groupRunOf}
 use Rattle.group_words.specs.Row.{tabulate}
 use Rattle.group_words.specs.StateWords.{groupWords, stateWordsOf}

@@ -1,5 +1,5 @@
 -- Worked groups: the barrier, the turn, who stops a group, and the two memories.
-use Prim.Native.Nat.{ℕ}
+use Prim.Native.Nat.{ℕ, _-_, _^_}
 use mathlib.Core.Path.{_≡_}
 use mathlib.Core.Bool.{true, false, cond}
 use mathlib.Core.List.{List, [], _∷_, _++_, map}
@@ -14,9 +14,9 @@ use Rattle.group.specs.GroupCalls.{GroupRan, groupRunOf, groupLaunchOf}
 
 -- ---- the groups
 
--- a barrier, the end, and a word that isn't in the tables; then lui x5, 1 and two loads of a word: lw x6, 14(x5) and lw x6, 16(x5)
+-- a barrier, the end, and a word that isn't in the tables; then lui x5, 1 and two loads of a word: lw x6, 14(x5) and lw x6, 16(x5); then vid.v v2 and vsb12 v2, 0(v1)
 abbrev kernel : List ℕ
-kernel = 0x0400400B ∷ 0x0000400B ∷ 0 ∷ 0x000012B7 ∷ 0x00E2A303 ∷ 0x000012B7 ∷ 0x0102A303 ∷ []
+kernel = 0x0400400B ∷ 0x0000400B ∷ 0 ∷ 0x000012B7 ∷ 0x00E2A303 ∷ 0x000012B7 ∷ 0x0102A303 ∷ 0x5208A157 ∷ 0x0020F07B ∷ []
 
 abbrev atBarrier : ℕ
 atBarrier = 0x80000000
@@ -34,16 +34,20 @@ atAcross = 0x8000000C
 abbrev atBehind : ℕ
 atBehind = 0x80000014
 
--- warp i of n: one lane, data at 0x1000, local memory at `near`, the entry at e
-abbrev launch : ℕ → ℕ → ℕ → ℕ → Launch
-launch near n i e =
+-- each lane stores its number at the address 0
+abbrev atClash : ℕ
+atClash = 0x8000001C
+
+-- warp i of n: so many lanes, data at 0x1000, local memory at `near`, the entry at e
+abbrev launchOf : ℕ → ℕ → ℕ → ℕ → ℕ → Launch
+launchOf lanes near n i e =
     record {
       fixed =
           record {
-            numt = 1;
+            numt = lanes;
             numw = n;
             wid = i;
-            launchMask = 1;
+            launchMask = 2 ^ lanes - 1;
             codeBase = 0x80000000;
             dataBase = 0x1000;
             knl = 0;
@@ -56,6 +60,10 @@ launch near n i e =
           };
       entry = e;
     }
+
+-- with one lane
+abbrev launch : ℕ → ℕ → ℕ → ℕ → Launch
+launch near n i e = launchOf 1 near n i e
 
 -- 16 bytes of data, and 4 bytes of local memory, of which the first is 7
 abbrev bytes : Contents
@@ -111,6 +119,10 @@ pub record Worked : Type 0 where
   pub leaves : after 2 (groupOf 0 (two atBarrier atEnd)) ≡ 0 ∷ 2 ∷ 0 ∷ 0 ∷ 0 ∷ atEnd ∷ 2 ∷ atEnd ∷ []
   -- a refused warp stops the group: its number and WID, the turn as before it
   pub stops : after 9 (groupOf 0 (two atBarrier atNothing)) ≡ 6 ∷ 1 ∷ 1 ∷ 1 ∷ 1 ∷ atEnd ∷ 0 ∷ atNothing ∷ []
+  -- so does one whose two lanes clash, here in local memory
+  pub clashes : after 9 (groupOf 0 (launchOf 2 0 2 0 atBarrier ∷ launchOf 2 0 2 1 atClash ∷ [])) ≡ 15 ∷ 2 ∷ 1 ∷ 0 ∷ 1 ∷ atEnd ∷ 0 ∷ 0x80000020 ∷ []
+  -- and one lane alone clashes with none
+  pub alone : after 3 (groupOf 0 (launch 0 2 0 atBarrier ∷ launch 0 2 1 atClash ∷ [])) ≡ 0 ∷ 3 ∷ 0 ∷ 0 ∷ 1 ∷ atEnd ∷ 0 ∷ 0x80000024 ∷ []
   -- with warp 1's turn first, warp 1 steps first
   pub turns : after 1 (groupOf 1 (two atBarrier atBarrier)) ≡ 0 ∷ 1 ∷ 0 ∷ 0 ∷ 0 ∷ atBarrier ∷ 1 ∷ atEnd ∷ []
   -- all ended, whatever the turn: 3, and a run of 0 steps answers 0

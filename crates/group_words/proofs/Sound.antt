@@ -10,8 +10,10 @@ use Rattle.warp.specs.Warp.{zeroWarp}
 use Rattle.warp.specs.WellFormed.{wellFormedOf}
 use Rattle.layout.specs.Words.{warpOf, soundOf}
 use Rattle.group.specs.Group.{Group, countOf, fixedsOf}
-use Rattle.group.specs.GroupRefuse.{allBelow, placedOf, goesOnOf, formedOf}
-use Rattle.group.proofs.GroupLaws.{by-test, refute, below-at, below-all}
+use Rattle.lanes.specs.Lanes.{allBelow}
+use Rattle.lanes.proofs.Laws.{below-at, below-all}
+use Rattle.group.specs.GroupRefuse.{placedOf, goesOnOf, formedOf}
+use Rattle.group.proofs.GroupLaws.{by-test, refute}
 use Rattle.group.proofs.GroupFacts.{GroupFormed, group-formed, formed-group}
 use Rattle.group_words.specs.Row.{Row, wordsAt, warpIn, groupIn, fixedsIn, warpOkAt, allSound}
 use Rattle.group_words.proofs.Tabulate.{tab-length, tab-at, tab-map}

@@ -1,35 +1,25 @@
 -- The tests of a group, over its warps' words.
-use Prim.Native.Nat.{ℕ, suc, _+_, _*_, _≤_, _<_}
-use mathlib.Core.Path.{_≡_, refl, sym, ap, _∙_, subst}
-use mathlib.Core.Bool.{Bool, true, false, _&&_, _||_}
+use Prim.Native.Nat.{ℕ, _*_, _≤_, _<_}
+use mathlib.Core.Path.{_≡_, sym, _∙_, subst}
+use mathlib.Core.Bool.{Bool, true, false}
 use mathlib.Core.List.{List}
-use native.Mathlib.Numerals.{add-one}
 use native.Mathlib.Omega.{arith}
 use lib.Dec.{ltb}
-use lib.ListN.{length, getD}
+use lib.ListN.{length}
 use borrow.Author.Tests.{eq-eqb, ne-eqb, lt-ltb, le-ltb, ltb-true, ltb-false}
 use Rattle.memory.specs.Memories.{Contents}
 use Rattle.warp.specs.declared.Fixed.{Fixed}
-use Rattle.warp.specs.declared.Warp.{Warp}
 use Rattle.warp.specs.Warp.{zeroWarp, zeroFixed}
 use Rattle.layout.specs.Words.{endedIn, fixedIn, warpOf}
 use Rattle.definition.specs.Refuse.{runsOkOf}
-use Rattle.group.specs.Group.{fileAt, someRuns, allEnded}
-use Rattle.group.specs.GroupRefuse.{warpsLimit, allBelow, fixedAt, sizesOkOf, inPlaceOf, placedOf, goesOnOf}
-use Rattle.group.proofs.GroupLaws.{by-test, refute, below-same, some-runs, ended-all, not-ended}
+use Rattle.group.specs.Group.{fileAt, allEnded}
+use Rattle.lanes.specs.Lanes.{allBelow}
+use Rattle.lanes.proofs.Laws.{below-same}
+use Rattle.group.specs.GroupRefuse.{warpsLimit, fixedAt, sizesOkOf, inPlaceOf, placedOf, goesOnOf}
+use Rattle.group.proofs.GroupLaws.{by-test, refute, some-runs, ended-all, not-ended}
 use Rattle.group.proofs.GroupFacts.{group-sizes, sizes-group}
 use Rattle.group_words.specs.Row.{Row, row, wordsAt, warpIn, warpsIn, groupIn, fixedsIn, Picks}
 use Rattle.group_words.proofs.Tabulate.{tab-length, tab-at}
-
--- ---- one more number of which a test holds
-
-pub below-none : (p : ℕ → Bool) → allBelow 0 p ≡ true
-unfolding allBelow
-below-none p = refl
-
-pub below-more : (p : ℕ → Bool) (i : ℕ) → allBelow i p ≡ true → p i ≡ true → allBelow (i + 1) p ≡ true
-unfolding allBelow
-below-more p i a b = rw (add-one i, a, b)
 
 -- ---- what the launch fixed
 

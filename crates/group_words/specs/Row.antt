@@ -11,7 +11,8 @@ use Rattle.warp.specs.Warp.{zeroWarp}
 use Rattle.warp.specs.WellFormed.{wellFormedOf}
 use Rattle.layout.specs.Words.{movingCount, flatCount, isSet, endedIn, waitingIn, fixedIn, warpOf, soundOf}
 use Rattle.group.specs.Group.{Group, group, fixedsOf, runs, someRuns, firstFrom}
-use Rattle.group.specs.GroupRefuse.{warpsLimit, allBelow, sizesOkOf, formedOf}
+use Rattle.lanes.specs.Lanes.{allBelow}
+use Rattle.group.specs.GroupRefuse.{warpsLimit, sizesOkOf, formedOf}
 
 pub record Row : Type 0 where
   pub fixed : List (List ℕ)

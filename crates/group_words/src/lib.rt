@@ -20,7 +20,8 @@ ghost use Rattle.layout.specs.Words.{movingCount, flatCount, fixedIn};
 ghost use Rattle.memory.specs.Memories.{Contents, contents};
 ghost use Rattle.running.specs.Goes.{Goes};
 ghost use Rattle.group.specs.Group.{nextOf, allEnded, freed, settled};
-ghost use Rattle.group.specs.GroupRefuse.{warpsLimit, allBelow, sizesOkOf, inPlaceOf, placedOf, goesOnOf, formedOf};
+ghost use Rattle.lanes.specs.Lanes.{allBelow};
+ghost use Rattle.group.specs.GroupRefuse.{warpsLimit, sizesOkOf, inPlaceOf, placedOf, goesOnOf, formedOf};
 ghost use Rattle.group_words.specs.Row.{row, runsIn, warpsIn, Picks, Moving, Splits, Moves, groupIn, fixedsIn, warpOkAt, allSound, Rooms};
 
 // The most warps of a group.

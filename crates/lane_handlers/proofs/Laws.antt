@@ -1,13 +1,13 @@
 -- From what the callees do with the lent words to what the definition says of the state that they stand for.
 use Prim.Native.Nat.{ℕ, _%_, _^_, _<_, _≤_}
-use mathlib.Core.Path.{_≡_, refl, sym, ap, _∙_}
+use mathlib.Core.Path.{_≡_, refl, sym, ap, ap₂, _∙_}
 use mathlib.Core.Bool.{Bool, true, false, not, _&&_, cond}
 use mathlib.Core.List.{List, [], _∷_}
 use native.Mathlib.Omega.{arith}
 use lib.Dec.{eqb}
 use lib.ListN.{length}
 use borrow.Author.Tests.{eqb-true, eqb-false, not-false}
-use Rattle.answer.specs.Rows.{_⇒_, first}
+use Rattle.answer.specs.Rows.{Row, _⇒_, first}
 use Rattle.isa.specs.declared.Instr.{Instr}
 use Rattle.isa.specs.declared.Instr.the-variants as I
 use Rattle.isa.specs.declared.LoadOp.{LoadOp}
@@ -25,13 +25,15 @@ use Rattle.memory.specs.declared.Private.{Private}
 use Rattle.memory.specs.Address.{laneAddress}
 use Rattle.memory.specs.Memory.{sizeOf, widthOf}
 use Rattle.memory.specs.Memories.{Contents, Memories, insideOne, loadFrom}
-use Rattle.memory.specs.LaneAccess.{allInside, allInWord, storeLanes}
+use Rattle.memory.specs.LaneAccess.{allInside, allInWord, allAgree}
+use Rattle.memory.proofs.Agree.{agree-only}
 use Rattle.memory.proofs.Laws.{inside-only, load-only, store-only}
+use Rattle.lane_memory.specs.Stores.{Stored}
 use Rattle.layout.specs.Words.{movingCount, flatCount, maskIn, fixedIn, warpOf}
 use Rattle.running.specs.Goes.{nextIn}
-use Rattle.definition.specs.State.{state, memoriesIn, privateIn}
+use Rattle.definition.specs.State.{State, state, memoriesIn, privateIn, laneAt}
 use Rattle.definition.proofs.Tests.{crosses-first, crosses-not}
-use Rattle.definition.specs.Refuse.{astray, refusalsOf}
+use Rattle.definition.specs.Refuse.{astray, someClash, refusalsOf}
 use Rattle.definition.specs.Exec.{effectOf}
 use Rattle.definition.specs.Step.{execOf}
 use Rattle.handlers.specs.Handles.{Lists, lists, lentState, Handles}
@@ -60,9 +62,9 @@ module _ (s : Space) (off w : ℕ) (g v : List ℕ) {n : ℕ} {b : VReg} (en : n
 
 -- the boundary test t of an access of z bytes
 module _ (s : Space) (size off mask w : ℕ) (g v : List ℕ) (d : Contents) {z : ℕ} {t : Bool} (ez : z ≡ size) (q : t ≡ not (inWords s z off mask w g v)) where
-  pub crossed : t ≡ true → Tested 14 s size off mask w g v d
+  pub crossed : (more : State → List (Row Bool)) → t ≡ true → Tested more 14 s size off mask w g v d
   unfolding warpOf
-  crossed e h x r eh = sym (crosses-first s size (vs1In w) off (state (warpOf g h x r) v d) (rw (eh, ← ez) (sym q ∙ e)))
+  crossed more e h x r eh = let m = state (warpOf g h x r) v d in sym (crosses-first s size (vs1In w) off m (more m) (rw (eh, ← ez) (sym q ∙ e)))
 
   pub not-crossed : t ≡ false → inWords s size off mask w g v ≡ true
   not-crossed e = rw (← ez) (not-false (inWords s z off mask w g v) (sym q ∙ e))
@@ -73,7 +75,7 @@ made-so true c new old u k e = rw k e
 made-so false c new old u k e = rw k e
 
 -- no access crosses, and the addresses stand in a row o; the code has n threads
-module _ (s : Space) (off mask w : ℕ) (g v : List ℕ) (d : Contents) (o : List ℕ) (t : Bool) {n c : ℕ} (en : n ≡ fixedIn g .numt) (r : RowOf (fixedIn g .numt) (addressAt s off w g v) o) (m : c ≡ first (9 ⇒ not t ∷ [])) where
+module _ (s : Space) (off mask w : ℕ) (g v : List ℕ) (d : Contents) (o : List ℕ) {n : ℕ} (en : n ≡ fixedIn g .numt) (r : RowOf (fixedIn g .numt) (addressAt s off w g v) o) where
   abbrev Both : Memories
   Both = memoriesIn (fixedIn g) d
 
@@ -83,29 +85,40 @@ module _ (s : Space) (off mask w : ℕ) (g v : List ℕ) (d : Contents) (o : Lis
   there : (l : Lane) → l .0 < n → bit mask l ≡ true → at o l ≡ At l
   there l h i = r .1 l (rw en at h)
 
-  nine : (size : ℕ) → inWords s size off mask w g v ≡ true → t ≡ allInside n (bit mask) (insideOne Both size) (at o) → Tested c s size off mask w g v d
-  unfolding warpOf
-  nine size e q h x y eh =
-      let a = vs1In w in
-      let M = state (warpOf g h x y) v d in
-      let inside : t ≡ allInside (fixedIn g .numt) (bit (maskIn h)) (insideOne Both size) At = rw eh (rw en at (q ∙ inside-only n (bit mask) Both (at o) At there size)) in
-      m ∙ ap (λ (b : Bool). first (9 ⇒ not b ∷ [])) inside ∙ sym (crosses-not s size a off M (rw (eh, e)))
+  -- what the tests of the row are to the definition, whose mask is the same
+  inside-told : (size m : ℕ) → m ≡ mask → allInside n (bit mask) (insideOne Both size) (at o) ≡ allInside (fixedIn g .numt) (bit m) (insideOne Both size) At
+  inside-told size m e = inside-only n (bit mask) Both (at o) At there size ∙ ap₂ (λ (j k : ℕ). allInside j (bit k) (insideOne Both size) At) en (sym e)
 
-  pub loaded-row : {k : LoadOp} {rd : VReg} {v' : List ℕ} → k ≡ loadOpOf (fieldsOf w) → rd ≡ vdIn w → inWords s (sizeOf k) off mask w g v ≡ true
+  agree-told : (k : StoreOp) (rs : VReg) (m : ℕ) → m ≡ mask → allAgree n (bit mask) k (at o) (laneOf v rs) ≡ allAgree (fixedIn g .numt) (bit m) k At (laneOf v rs)
+  agree-told k rs m e = agree-only n (bit mask) k (at o) At (laneOf v rs) (laneOf v rs) there (λ l h i. refl) ∙ ap₂ (λ (j b : ℕ). allAgree j (bit b) k At (laneOf v rs)) en (sym e)
+
+  pub loaded-row : {k : LoadOp} {rd : VReg} {v' : List ℕ} {t : Bool} {c : ℕ} → c ≡ first (9 ⇒ not t ∷ []) → k ≡ loadOpOf (fieldsOf w) → rd ≡ vdIn w → inWords s (sizeOf k) off mask w g v ≡ true
       → (t ≡ allInside n (bit mask) (insideOne Both (sizeOf k)) (at o)) × (v' ≡ cond t (writeLanes n (bit mask) rd (λ l. loadFrom k Both (at o l)) v) v) → LaneLoad c s off mask w g v d v'
-  loaded-row {k} {rd} ek ed e q =
+  unfolding warpOf
+  loaded-row {k} {rd} {v'} {t} {c} m ek ed e q =
       record {
-        code = rw ek at (nine (sizeOf k) e (q .0));
+        code = rw ek at tested;
         file = made-so t c _ v _ m (rw (en, ek, ed) at (q .1 ∙ ap (λ (u : List ℕ). cond t u v) (load-only n (bit mask) Both (at o) At there k rd v)));
       }
+    where
+      tested : Tested (λ m. []) c s (sizeOf k) off mask w g v d
+      tested h x y eh =
+          m ∙ ap (λ (b : Bool). first (9 ⇒ not b ∷ [])) (q .0 ∙ inside-told (sizeOf k) (maskIn h) eh)
+          ∙ sym (crosses-not s (sizeOf k) (vs1In w) off (state (warpOf g h x y) v d) [] (rw (eh, e)))
 
-  pub stored-row : {k : StoreOp} {rs : VReg} {d' : Contents} → k ≡ laneStoreOpOf (fieldsOf w) → rs ≡ vs2In w → inWords s (widthOf k) off mask w g v ≡ true
-      → (t ≡ allInside n (bit mask) (insideOne Both (widthOf k)) (at o)) × (d' ≡ cond t (storeLanes n (bit mask) k (at o) (laneOf v rs) Both) d) → LaneStore c s off mask w g v d d'
-  stored-row {k} {rs} ek es e q =
+  pub stored-row : {k : StoreOp} {rs : VReg} {d' : Contents} {c : ℕ} → k ≡ laneStoreOpOf (fieldsOf w) → rs ≡ vs2In w → inWords s (widthOf k) off mask w g v ≡ true
+      → Stored c n mask k (at o) (laneOf v rs) Both d' → LaneStore c s off mask w g v d d'
+  unfolding warpOf
+  stored-row {k} {rs} {d'} {c} ek es e q =
       record {
-        code = rw ek at (nine (widthOf k) e (q .0));
-        bytes = made-so t c _ d _ m (rw (en, ek, es) at (q .1 ∙ ap (λ (u : Contents). cond t u d) (store-only n (bit mask) Both (at o) At there k (laneOf v rs) (laneOf v rs) (λ l h i. refl))));
+        code = rw (ek, es) at tested;
+        bytes = rw (en, ek, es) at (q .bytes ∙ ap (λ (u : Contents). cond (eqb c 0) u d) (store-only n (bit mask) Both (at o) At there k (laneOf v rs) (laneOf v rs) (λ l h i. refl)));
       }
+    where
+      tested : Tested (λ m. 15 ⇒ someClash k (laneAt s (vs1In w) off m) rs m ∷ []) c s (widthOf k) off mask w g v d
+      tested h x y eh =
+          q .code ∙ ap₂ (λ (b f : Bool). first (9 ⇒ not b ∷ 15 ⇒ not f ∷ [])) (inside-told (widthOf k) (maskIn h) eh) (agree-told k rs (maskIn h) eh)
+          ∙ sym (crosses-not s (widthOf k) (vs1In w) off (state (warpOf g h x y) v d) (15 ⇒ someClash k At rs (state (warpOf g h x y) v d) ∷ []) (rw (eh, e)))
 
 -- an access by lanes is refused or done: c is its answer, and `put` takes the moving words and what it changes
 module _ {A : Type 0} (i : Instr) (put : List ℕ → A → Lists) (c : ℕ) (h h' : List ℕ) (new old u : A) (z : length (put h old .moving) ≡ movingCount) (n : length (put h old .splits) ≡ flatCount) where

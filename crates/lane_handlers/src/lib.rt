@@ -279,7 +279,7 @@ pub fn vstore(
     let n = threads(g);
     let base = g[DATABASE];
     let near = g[LDS];
-    inside_number(lane_memory::store_lanes(v, mask, n, k, d, base, l, near, &o, fields::vs2(w)))
+    lane_memory::store_lanes(v, mask, n, k, d, base, l, near, &o, fields::vs2(w))
 }
 
 // The PC goes to PC + 4 where the access was made.

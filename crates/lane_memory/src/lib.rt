@@ -23,6 +23,7 @@ ghost use Rattle.lanes.specs.Rows.{at, RowOn};
 ghost use Rattle.memory.specs.Memory.{memory, MemoryOk, sizeOf, widthOf, insideOf, loadOf};
 ghost use Rattle.memory.specs.Memories.{contents, memories, MemoriesOk, insideOne, loadFrom};
 ghost use Rattle.memory.specs.LaneAccess.{allInside, storeLanes};
+ghost use Rattle.lane_memory.specs.Stores.{Stored};
 
 // The lanes below n, active or not, whose access is not inside: a mask made without a branch.
 fn outside(d: &[u8], base: u32, w: usize, n: usize, o: &[u32; LANES]) -> u32
@@ -273,7 +274,7 @@ pub fn load_lanes(
     false
 }
 
-// The stores of the active lanes, all in data memory or not; false, and nothing changed, where one is in neither.
+// The stores of the active lanes, all in data memory or not; refused, with nothing changed, where one is in neither or two clash.
 fn stored(
     d: &mut [u8],
     base: u32,
@@ -284,22 +285,28 @@ fn stored(
     n: usize,
     o: &[u32; LANES],
     x: &[u32; LANES],
-) -> bool
+) -> u32
     requires { ⌜ (n ≤ lanesMax) × (mask < 2 ^ n) × MemoriesOk (memories base near (contents (now d) (now local))) ⌝ }
-    ensures { λ t. ⌜ (t ≡ allInside n (bit mask) (insideOne (memories base near (contents (now (d .entry)) (now (local .entry)))) (widthOf k)) (at (now (o .entry)))) × (contents (now (d .exit)) (now (local .exit)) ≡ cond t (storeLanes n (bit mask) k (at (now (o .entry))) (at (now (x .entry))) (memories base near (contents (now (d .entry)) (now (local .entry))))) (contents (now (d .entry)) (now (local .entry)))) ⌝ }
+    ensures { λ c. ⌜ Stored c n mask k (at (now (o .entry))) (at (now (x .entry))) (memories base near (contents (now (d .entry)) (now (local .entry)))) (contents (now (d .exit)) (now (local .exit))) ⌝ }
 {
-    if all_inside(d, base, width(k), mask, n, o) {
+    let here = all_inside(d, base, width(k), mask, n, o);
+    if !here {
+        if !all_inside_one(d, base, local, near, width(k), mask, n, o) {
+            return answer::OUTSIDE;
+        }
+    }
+    if !lane_clash::all_agree(k, mask, n, o, x) {
+        return answer::CLASHING;
+    }
+    if here {
         store_op(d, base, k, mask, n, o, x);
-        return true;
-    }
-    if all_inside_one(d, base, local, near, width(k), mask, n, o) {
+    } else {
         store_both(d, base, local, near, k, mask, n, o, x);
-        return true;
     }
-    false
+    answer::DONE
 }
 
-// A store of register src by the lanes of the mask to the addresses o; false, and nothing changed, where one is not wholly inside a memory.
+// A store of register src by the lanes of the mask to the addresses o: done, or refused with nothing changed.
 pub fn store_lanes(
     v: &[u32],
     mask: u32,
@@ -311,9 +318,9 @@ pub fn store_lanes(
     near: u32,
     o: &[u32; LANES],
     src: VReg,
-) -> bool
+) -> u32
     requires { ⌜ (length (now v) ≡ fileWords) × (src .0 < vectorRegisters) × (n ≤ lanesMax) × (mask < 2 ^ n) × MemoriesOk (memories base near (contents (now d) (now local))) ⌝ }
-    ensures { λ t. ⌜ (t ≡ allInside n (bit mask) (insideOne (memories base near (contents (now (d .entry)) (now (local .entry)))) (widthOf k)) (at (now (o .entry)))) × (contents (now (d .exit)) (now (local .exit)) ≡ cond t (storeLanes n (bit mask) k (at (now (o .entry))) (laneOf (now (v .entry)) src) (memories base near (contents (now (d .entry)) (now (local .entry))))) (contents (now (d .entry)) (now (local .entry)))) ⌝ }
+    ensures { λ c. ⌜ Stored c n mask k (at (now (o .entry))) (laneOf (now (v .entry)) src) (memories base near (contents (now (d .entry)) (now (local .entry)))) (contents (now (d .exit)) (now (local .exit))) ⌝ }
 {
     let mut x = [0u32; LANES];
     lanes::get(v, src, n, &mut x);

@@ -19,7 +19,7 @@ use Rattle.lanes.specs.declared.Operand.the-variants.{Reg, Word}
 use Rattle.lanes.specs.declared.Lane.{Lane}
 use Rattle.lanes.specs.Mask.{lane}
 use Rattle.isa.specs.Bounds.{vectorRegisters}
-use Rattle.lanes.specs.Lanes.{lanesMax, fileWords, slotOf, laneOf, operandOf, opLane, stepIf, eachLane, writeLanes, allLanes, okIf, valueOf, uniformOf}
+use Rattle.lanes.specs.Lanes.{lanesMax, fileWords, slotOf, laneOf, operandOf, opLane, stepIf, eachLane, writeLanes, allBelow, allLanes, okIf, valueOf, uniformOf}
 
 -- a lane below the next count is the newest or was below before
 pub newest : {k : Lane} {n : ℕ} → k .0 < suc n → (k ≡ lane n) ⊎ (k .0 < n)
@@ -151,21 +151,48 @@ pub both-right : (a c : Bool) → (a && c) ≡ true → c ≡ true
 both-right true c e = e
 both-right false c e = absurd (true≢false (sym e))
 
+pub below-at : (n : ℕ) (p : ℕ → Bool) → allBelow n p ≡ true → (i : ℕ) → i < n → p i ≡ true
+unfolding allBelow
+below-at zero p e i h = absurd (omega arith)
+below-at (suc n) p e i h =
+    ⊎-elim (λ q. ap p q ∙ both-right (allBelow n p) (p n) e) (λ q. below-at n p (both-left (allBelow n p) (p n) e) i q) (eq-or-lt-of-le (le-of-suc-le-suc h))
+
+pub below-all : (n : ℕ) (p : ℕ → Bool) → ((i : ℕ) → i < n → p i ≡ true) → allBelow n p ≡ true
+unfolding allBelow
+below-all zero p f = refl
+below-all (suc n) p f = ap₂ _&&_ (below-all n p (λ i k. f i (below k))) (f n (le-refl (suc n)))
+
+pub below-same : (n : ℕ) (p q : ℕ → Bool) → ((i : ℕ) → i < n → p i ≡ q i) → allBelow n p ≡ allBelow n q
+unfolding allBelow
+below-same zero p q e = refl
+below-same (suc n) p q e = ap₂ _&&_ (below-same n p q (λ i k. e i (below k))) (e n (le-refl (suc n)))
+
+-- one for which it fails
+pub below-not : (n : ℕ) (p : ℕ → Bool) (i : ℕ) → i < n → p i ≡ false → allBelow n p ≡ false
+below-not n p i h e = by (allBelow n p) refl
+  where
+    by : (t : Bool) → allBelow n p ≡ t → allBelow n p ≡ false
+    by true t = absurd (true≢false (sym (below-at n p t i h) ∙ e))
+    by false t = t
+
+-- a turn of a loop that tests one after another
+pub below-none : (p : ℕ → Bool) → allBelow 0 p ≡ true
+unfolding allBelow
+below-none p = refl
+
+pub below-more : (p : ℕ → Bool) (i : ℕ) → allBelow i p ≡ true → p i ≡ true → allBelow (i + 1) p ≡ true
+unfolding allBelow
+below-more p i a b = rw (add-one i, a, b)
+
+-- the same of lanes
 pub all-at : (p : Lane → Bool) (n : ℕ) (l : Lane) → true ≡ allLanes n p → l .0 < n → p l ≡ true
-unfolding allLanes
-all-at p zero l e h = absurd (omega arith)
-all-at p (suc n) l e h =
-    ⊎-elim (λ q. ap p q ∙ both-right (allLanes n p) (p (lane n)) (sym e)) (λ q. all-at p n l (sym (both-left (allLanes n p) (p (lane n)) (sym e))) q) (newest h)
+all-at p n l e h = below-at n (λ i. p (lane i)) (sym e) (l .0) h
 
 pub all-hold : (p : Lane → Bool) (n : ℕ) → ((l : Lane) → l .0 < n → p l ≡ true) → true ≡ allLanes n p
-unfolding allLanes
-all-hold p zero h = refl
-all-hold p (suc n) h = ap₂ _&&_ (all-hold p n (λ l k. h l (below k))) (sym (h (lane n) (le-refl (suc n))))
+all-hold p n h = sym (below-all n (λ i. p (lane i)) (λ i k. h (lane i) k))
 
 pub all-same : (p q : Lane → Bool) (n : ℕ) → ((l : Lane) → l .0 < n → p l ≡ q l) → allLanes n p ≡ allLanes n q
-unfolding allLanes
-all-same p q zero e = refl
-all-same p q (suc n) e = ap₂ _&&_ (all-same p q n (λ l h. e l (below h))) (e (lane n) (le-refl (suc n)))
+all-same p q n e = below-same n (λ i. p (lane i)) (λ i. q (lane i)) (λ i k. e (lane i) k)
 
 pub ok-at : (a c : Bool) → okIf a c ≡ true → a ≡ true → c ≡ true
 ok-at true c e t = e

@@ -18,7 +18,7 @@ use Rattle.word.specs.declared.Cond.{Cond}
 use Rattle.isa.specs.declared.VReg.{VReg}
 use Rattle.lanes.specs.declared.Lane.{Lane}
 use Rattle.lanes.specs.Mask.{lane, bitAt, bit}
-use Rattle.lanes.specs.Lanes.{stepIf, eachLane, maskOf, allLanes, laneOf, wantsOf}
+use Rattle.lanes.specs.Lanes.{stepIf, eachLane, maskOf, allBelow, allLanes, laneOf, wantsOf}
 use Rattle.lanes.proofs.Laws.{each-grows, each-same}
 
 -- ---- lane l's digit
@@ -125,7 +125,7 @@ and-bits p n m h = ap (bitAnd (maskOf n p)) (mask-self m n h) ∙ masks-and p (b
 
 -- a mask is 0 just where the test holds in no lane
 pub mask-zero : (q : Lane → Bool) (n : ℕ) → eqb (maskOf n q) 0 ≡ allLanes n (λ l. not (q l))
-unfolding eachLane allLanes
+unfolding eachLane allBelow
 mask-zero q zero = refl
 mask-zero q (suc n) = turn (q (lane n)) (maskOf n q) (allLanes n (λ l. not (q l))) (mask-zero q n)
   where

@@ -55,10 +55,13 @@ writeLanes n on d f v = eachLane n on (λ l w. set w (slotOf d l) (f l)) v
 abbrev pub maskOf : ℕ → (Lane → Bool) → ℕ
 maskOf n on = eachLane n on (λ l m. m + 2 ^ l .0) 0
 
--- p holds in every lane
-unfoldable pub allLanes : ℕ → (Lane → Bool) → Bool
-allLanes zero p = true
-allLanes (suc n) p = allLanes n p && p (lane n)
+-- p holds of every number below n, and in every lane below n
+unfoldable pub allBelow : ℕ → (ℕ → Bool) → Bool
+allBelow zero p = true
+allBelow (suc n) p = allBelow n p && p n
+
+abbrev pub allLanes : ℕ → (Lane → Bool) → Bool
+allLanes n p = allBelow n (λ i. p (lane i))
 
 -- a test that is asked of a lane only where it is on
 abbrev pub okIf : Bool → Bool → Bool

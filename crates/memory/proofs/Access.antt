@@ -93,6 +93,14 @@ pub bytes-at : (m : Memories) (r : Region) → memoryAt r m .bytes ≡ bytesAt r
 bytes-at m Data = refl
 bytes-at m Local = refl
 
+-- an access that lies in one of them ends at 2 ^ 32 at the latest
+pub inside-last : (m : Memories) → MemoriesOk m → (w a : ℕ) → insideOne m w a ≡ true → a + w ≤ 2 ^ 32
+inside-last m ok w a e = by (regionOf m w a) (inside-region m w a e)
+  where
+    by : (r : Region) → insideOf (memoryAt r m) w a ≡ true → a + w ≤ 2 ^ 32
+    by Data h = let z = inside-true (memoryAt Data m) w a h in omega (arith, z .0, z .1, ok .0 .1)
+    by Local h = let z = inside-true (memoryAt Local m) w a h in omega (arith, z .0, z .1, ok .1 .1)
+
 -- memories that don't overlap have no address in common
 module _ (m : Memories) (e : overlapOf (memoryAt Data m) (memoryAt Local m) ≡ false) (a : ℕ) where
   abbrev has : Region → Type 0

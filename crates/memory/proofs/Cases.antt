@@ -9,13 +9,13 @@ use Rattle.isa.specs.declared.Space.the-variants as space
 use Rattle.isa.specs.declared.StoreOp.the-variants as store
 use Rattle.lanes.specs.declared.Lane.{Lane}
 use Rattle.lanes.specs.Mask.{lane, bitAt, bit}
-use Rattle.lanes.specs.Lanes.{eachLane, allLanes, writeLanes}
+use Rattle.lanes.specs.Lanes.{eachLane, allBelow, writeLanes}
 use Rattle.memory.specs.Bytes.{leBytes}
 use Rattle.memory.specs.Memory.{Memory, memory, insideOf, loadOf}
-use Rattle.memory.specs.Memories.{Memories, memories, contents, alone, insideOne, overlapOf, loadFrom, storeTo}
+use Rattle.memory.specs.Memories.{Memories, memories, alone, insideOne, storeTo}
 use Rattle.memory.specs.declared.Private.{Private}
 use Rattle.memory.specs.Address.{addressOf, inWord}
-use Rattle.memory.specs.LaneAccess.{allInside, allInWord, storeLanes}
+use Rattle.memory.specs.LaneAccess.{allInside, allInWord, agreeOf, allAgree, storeLanes}
 
 -- sixteen bytes at 0x1000
 base : ℕ
@@ -40,7 +40,7 @@ row a l = base + getD a (l .0) 0
 
 -- a store with lane 3 outside is not refused where that lane isn't active, and lanes 0 to 2 write
 three-inside : allInside 4 (bit 7) (insideOne single 4) (row (0 ∷ 4 ∷ 8 ∷ 13 ∷ [])) ≡ true
-unfolding base bytes allLanes bitAt
+unfolding base bytes allBelow bitAt
 three-inside = refl
 
 three-written : storeLanes 4 (bit 7) store.W (row (0 ∷ 4 ∷ 8 ∷ 13 ∷ [])) words single
@@ -48,11 +48,36 @@ three-written : storeLanes 4 (bit 7) store.W (row (0 ∷ 4 ∷ 8 ∷ 13 ∷ []))
 unfolding base bytes words eachLane bitAt leBytes storeTo
 three-written = refl
 
--- lanes 0, 1 and 3 store to one byte: the highest wins
-highest : storeLanes 4 (bit 11) store.B (row (5 ∷ 5 ∷ 5 ∷ 5 ∷ [])) words single
+-- lanes 0, 1 and 3 store different bytes to one address: they clash, though lane 2, which stores to another, is between them and not active
+clash : allAgree 4 (bit 11) store.B (row (5 ∷ 5 ∷ 6 ∷ 5 ∷ [])) words ≡ false
+unfolding base words agreeOf allBelow bitAt leBytes
+clash = refl
+
+-- one byte in common: lane 0's last is 0x11, lane 1's first 0x88
+one-common : allAgree 4 (bit 3) store.W (row (0 ∷ 3 ∷ 0 ∷ 0 ∷ [])) words ≡ false
+unfolding base words agreeOf allBelow bitAt leBytes
+one-common = refl
+
+-- three bytes in common, all 0x99
+equal : allAgree 4 (bit 12) store.W (row (0 ∷ 0 ∷ 8 ∷ 9 ∷ [])) (λ l. words (lane 2)) ≡ true
+unfolding base words agreeOf allBelow bitAt leBytes
+equal = refl
+
+-- one byte in common, where the upper lane's access is the lower one in memory: 0x88 at its end, and at the beginning of lane 0's
+met : allAgree 2 (bit 3) store.W (row (3 ∷ 0 ∷ [])) (λ l. getD (0x11223388 ∷ 0x88776655 ∷ []) (l .0) 0) ≡ true
+unfolding base agreeOf allBelow bitAt leBytes
+met = refl
+
+-- inactive lanes 1 and 3 would clash with each other and with lane 0
+inactive : allAgree 4 (bit 5) store.H (row (0 ∷ 1 ∷ 4 ∷ 1 ∷ [])) words ≡ true
+unfolding base words agreeOf allBelow bitAt leBytes
+inactive = refl
+
+-- equal bytes are stored, whichever lane is last
+agreed : storeLanes 4 (bit 11) store.B (row (5 ∷ 5 ∷ 5 ∷ 5 ∷ [])) (λ l. words (lane 3)) single
     ≡ alone (1 ∷ 2 ∷ 3 ∷ 4 ∷ 250 ∷ 221 ∷ 252 ∷ 253 ∷ 8 ∷ 9 ∷ 10 ∷ 11 ∷ 12 ∷ 13 ∷ 14 ∷ 15 ∷ [])
 unfolding base bytes words eachLane bitAt leBytes storeTo
-highest = refl
+agreed = refl
 
 -- lanes 0 and 2 load a byte each into v0; lanes 1 and 3 keep their words, wherever their addresses lie
 load-lanes : writeLanes 4 (bit 5) (record { 0 = 0 }) (λ l. loadOf B lent (row (4 ∷ 99 ∷ 0 ∷ 99 ∷ []) l)) (7 ∷ 7 ∷ 7 ∷ 7 ∷ []) ≡ 4294967290 ∷ 7 ∷ 1 ∷ 7 ∷ []
@@ -143,9 +168,9 @@ plain-at-1 = refl
 
 -- 14 asks active lanes only, and every one of them: lane 3's half would cross
 three-in-word : allInWord 4 (bit 7) space.Private 2 (row (4 ∷ 6 ∷ 8 ∷ 11 ∷ [])) 0 ≡ true
-unfolding base allLanes bitAt
+unfolding base allBelow bitAt
 three-in-word = refl
 
 fourth-crosses : allInWord 4 (bit 15) space.Private 2 (row (4 ∷ 6 ∷ 8 ∷ 11 ∷ [])) 0 ≡ false
-unfolding base allLanes bitAt
+unfolding base allBelow bitAt
 fourth-crosses = refl

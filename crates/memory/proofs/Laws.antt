@@ -2,8 +2,8 @@
 use mathlib.Core.Path.{_≡_, refl, sym, ap, ap₂, _∙_, subst}
 use mathlib.Core.Bool.{Bool, true, false, cond, true≢false}
 use mathlib.Core.List.{List, [], _∷_}
-use mathlib.Core.Logic.{⊎-elim}
-use Prim.Native.Nat.{ℕ, zero, suc, _+_, _/_, _≤_, _<_}
+use mathlib.Core.Logic.{_⊎_, inl, inr, ⊎-elim}
+use Prim.Native.Nat.{ℕ, zero, suc, _+_, _-_, _/_, _≤_, _<_}
 use native.Mathlib.Nat.{add-zero, add-suc, suc-add, le-of-suc-le-suc}
 use native.Mathlib.Omega.{arith}
 use lib.ListN.{length, getD, set, length-set}
@@ -19,11 +19,12 @@ use Rattle.lanes.proofs.Laws.{newest, each-grows, each-keeps, each-same, write-
 use Rattle.memory.specs.declared.Loaded.the-variants.{Found, Outside}
 use Rattle.memory.specs.declared.Private.{Private}
 use Rattle.memory.specs.Bytes.{leBytes}
-use Rattle.memory.specs.Memory.{Memory, sizeOf, widthOf, insideOf, indexIn, loadOf, storeOf}
+use Rattle.memory.specs.Memory.{Memory, sizeOf, widthOf, insideOf, hasOf, indexIn, loadOf, storeOf}
 use Rattle.memory.specs.Memories.{Region, Data, Local, Contents, contents, alone, Memories, memories, bytesAt, withBytes, memoryAt, insideOne, regionOf, loadFrom, storeTo}
 use Rattle.memory.specs.Address.{addressOf, laneAddress, inWord}
-use Rattle.memory.specs.LaneAccess.{laneInside, allInside, allInWord, storeLanes}
+use Rattle.memory.specs.LaneAccess.{laneInside, allInside, allInWord, allAgree, storeLanes}
 use Rattle.memory.proofs.Access.{inside-true, all-inside-at, inside-at, bytes-at, region-same}
+use Rattle.memory.proofs.Agree.{has-true, true-has, all-agreed}
 
 -- what a scalar load finds
 pub found-inside : (t : Bool) (y v : ℕ) → Found y ≡ cond t (Found v) Outside → (t ≡ true) × (y ≡ v)
@@ -172,21 +173,77 @@ module _ (k : StoreOp) (a x : ℕ) (m : Memories) where
       by Data h = store-at k a x (memoryAt Data m) h j b
       by Local h = store-at k a x (memoryAt Local m) h j b
 
+abbrev isData : Region → Bool
+isData Data = true
+isData Local = false
+
+-- the same region or another
+other-region : (s r : Region) → (s ≡ r) ⊎ (s ≡ r → ⊥)
+other-region Data Data = inl refl
+other-region Data Local = inr (λ e. true≢false (ap isData e))
+other-region Local Data = inr (λ e. true≢false (sym (ap isData e)))
+other-region Local Local = inl refl
+
+-- ---- one store more, after others that left the bytes u
+abbrev left : Memories → Contents → Memories
+left m u = memories (m .dataBase) (m .lds) u
+
+-- the same place, whatever the bytes are
+index-left : (m : Memories) (u : Contents) (r : Region) (a : ℕ) → indexIn (memoryAt r (left m u)) a ≡ indexIn (memoryAt r m) a
+index-left m u Data a = refl
+index-left m u Local a = refl
+
+module _ (k : StoreOp) (a x : ℕ) (m : Memories) (u : Contents) (same : Same u (m .bytes)) (inside : insideOne m (widthOf k) a ≡ true) (r : Region) where
+  abbrev v : ℕ
+  v = widthOf k
+
+  abbrev n : Memories
+  n = left m u
+
+  region-turned : regionOf n v a ≡ regionOf m v a
+  region-turned = region-same (m .dataBase) (m .lds) u (m .bytes) v a same
+
+  fits : regionOf m v a ≡ r → indexIn (memoryAt r m) a + v ≤ length (bytesAt r u)
+  fits q = rw (same r, ← bytes-at m r) (inside-true (memoryAt r m) v a (inside-at m v a inside r q) .1)
+
+  -- a byte that it has is the word's
+  pub turned-at : regionOf m v a ≡ r → (j : ℕ) → j < v → getD (bytesAt r (storeTo k a x n)) (indexIn (memoryAt r m) a + j) 0 ≡ getD (leBytes v x) j 0
+  turned-at q j b =
+      subst (λ (i : ℕ). getD (bytesAt r (storeTo k a x n)) (i + j) 0 ≡ getD (leBytes v x) j 0) (index-left m u r a)
+      (to-at k a x n r (region-turned ∙ q) (rw (index-left m u r a) (fits q)) j b)
+
+  -- a byte stays what it is where the store has it too
+  pub turned-keeps : (i y : ℕ) → getD (bytesAt r u) i 0 ≡ y
+      → (regionOf m v a ≡ r → indexIn (memoryAt r m) a ≤ i → i < indexIn (memoryAt r m) a + v → getD (leBytes v x) (i - indexIn (memoryAt r m) a) 0 ≡ y)
+      → getD (bytesAt r (storeTo k a x n)) i 0 ≡ y
+  turned-keeps i y e f = ⊎-elim here (λ o. elsewhere (λ q h z. o q)) (other-region (regionOf m v a) r)
+    where
+      z : ℕ
+      z = indexIn (memoryAt r m) a
+
+      elsewhere : (regionOf m v a ≡ r → z ≤ i → i < z + v → ⊥) → getD (bytesAt r (storeTo k a x n)) i 0 ≡ y
+      elsewhere o = to-unwritten k a x n r i (λ q h g. o (sym region-turned ∙ q) (rw (← index-left m u r a) h) (rw (← index-left m u r a) g)) ∙ e
+
+      here : regionOf m v a ≡ r → getD (bytesAt r (storeTo k a x n)) i 0 ≡ y
+      here q = by (hasOf v z i) refl
+        where
+          by : (t : Bool) → hasOf v z i ≡ t → getD (bytesAt r (storeTo k a x n)) i 0 ≡ y
+          by true t =
+              let h = has-true v z i t in
+              let p : z + (i - z) ≡ i = omega (arith, h .0) in
+              subst (λ (c : ℕ). getD (bytesAt r (storeTo k a x n)) c 0 ≡ y) p (turned-at q (i - z) (omega (arith, h .0, h .1)) ∙ f q (h .0) (h .1))
+          by false t = elsewhere (λ q h g. true≢false (sym (true-has v z i (h, g)) ∙ t))
+
 -- ---- stores by lanes
 module _ (n : ℕ) (on : Lane → Bool) (k : StoreOp) (at xs : Lane → ℕ) (m : Memories) where
   abbrev turned : Contents → Memories
-  turned u = memories (m .dataBase) (m .lds) u
+  turned u = left m u
 
   pub lanes-same : Same (storeLanes n on k at xs m) (m .bytes)
   lanes-same = each-keeps on _ (m .bytes) (λ u. Same u (m .bytes)) (λ r. refl) n (λ l u h t e r. store-same k (at l) (xs l) (turned u) r ∙ e r)
 
   abbrev w : ℕ
   w = widthOf k
-
-  -- the same place, whatever the bytes are
-  index-turned : (r : Region) (u : Contents) (a : ℕ) → indexIn (memoryAt r (turned u)) a ≡ indexIn (memoryAt r m) a
-  index-turned Data u a = refl
-  index-turned Local u a = refl
 
   -- a byte that no active lane's access has stays
   pub lanes-unwritten : (r : Region) (i : ℕ) → ((l : Lane) → l .0 < n → on l ≡ true → regionOf m w (at l) ≡ r → indexIn (memoryAt r m) (at l) ≤ i → i < indexIn (memoryAt r m) (at l) + w → ⊥)
@@ -196,42 +253,34 @@ module _ (n : ℕ) (on : Lane → Bool) (k : StoreOp) (at xs : Lane → ℕ) (m 
       (λ l u h t e. (
         λ s. store-same k (at l) (xs l) (turned u) s ∙ e .0 s,
         to-unwritten k (at l) (xs l) (turned u) r i
-            (λ q p z. o l h t (sym (region-same (m .dataBase) (m .lds) u (m .bytes) w (at l) (e .0)) ∙ q) (rw (← index-turned r u (at l)) p) (rw (← index-turned r u (at l)) z)) ∙ e .1,
+            (λ q p z. o l h t (sym (region-same (m .dataBase) (m .lds) u (m .bytes) w (at l) (e .0)) ∙ q) (rw (← index-left m u r (at l)) p) (rw (← index-left m u r (at l)) z)) ∙ e .1,
       )) .1
 
-  -- a byte has what the highest lane that stores to it stores there: byte j of active lane l's access, where no higher active lane's access has it
-  pub lanes-highest : true ≡ allInside n on (insideOne m w) at → (l : Lane) → l .0 < n → on l ≡ true → (r : Region) → regionOf m w (at l) ≡ r → (j : ℕ) → j < w
-      → ((i : Lane) → l .0 < i .0 → i .0 < n → on i ≡ true → at i ≤ at l + j → at l + j < at i + w → ⊥)
+  -- where the active lanes agree, a byte has what any of them stores there: byte j of active lane l's access
+  pub lanes-stored : true ≡ allInside n on (insideOne m w) at → true ≡ allAgree n on k at xs → (l : Lane) → l .0 < n → on l ≡ true → (r : Region) → regionOf m w (at l) ≡ r → (j : ℕ) → j < w
       → getD (bytesAt r (storeLanes n on k at xs m)) (indexIn (memoryAt r m) (at l) + j) 0 ≡ getD (leBytes w (xs l)) j 0
-  lanes-highest all l h t r reg j b o =
+  lanes-stored all agree l h t r reg j b =
       each-grows on _ (m .bytes) (λ i u. Same u (m .bytes) × (l .0 < i → Has u)) ((λ r. refl), λ z. absurd (omega arith)) n
-      (λ i u p q e. (λ s. store-same k (at i) (xs i) (turned u) s ∙ e .0 s, λ z. ⊎-elim (newly i u (e .0)) (λ y. before i u p q (e .0) y ∙ e .1 y) (newest z)))
+      (λ i u p q e. (λ s. store-same k (at i) (xs i) (turned u) s ∙ e .0 s, λ z. ⊎-elim (newly i u (e .0)) (λ y. still i u p q (e .0) (e .1 y)) (newest z)))
       (λ i u p q e. (e .0, λ z. ⊎-elim (λ y. absurd (true≢false (sym t ∙ ap on y ∙ q))) (e .1) (newest z))) .1 h
     where
       Has : Contents → Type 0
       Has u = getD (bytesAt r u) (indexIn (memoryAt r m) (at l) + j) 0 ≡ getD (leBytes w (xs l)) j 0
 
-      -- an access of the region r, as indexes
-      fits : (i : Lane) → i .0 < n → on i ≡ true → regionOf m w (at i) ≡ r → (memoryAt r m .base ≤ at i) × (indexIn (memoryAt r m) (at i) + w ≤ length (memoryAt r m .bytes))
-      fits i p q e = inside-true (memoryAt r m) w (at i) (inside-at m w (at i) (all-inside-at n on (insideOne m w) at all i p q) r e)
-
-      region-at : (i : Lane) (u : Contents) → Same u (m .bytes) → regionOf (turned u) w (at i) ≡ regionOf m w (at i)
-      region-at i u e = region-same (m .dataBase) (m .lds) u (m .bytes) w (at i) e
+      inside : (i : Lane) → i .0 < n → on i ≡ true → insideOne m w (at i) ≡ true
+      inside = all-inside-at n on (insideOne m w) at all
 
       newly : (i : Lane) (u : Contents) → Same u (m .bytes) → l ≡ i → Has (storeTo k (at i) (xs i) (turned u))
-      newly i u e y =
-          let z = fits l h t reg in
-          subst (λ (i : Lane). Has (storeTo k (at i) (xs i) (turned u))) y
-          (subst (λ (p : ℕ). getD (bytesAt r (storeTo k (at l) (xs l) (turned u))) (p + j) 0 ≡ getD (leBytes w (xs l)) j 0) (index-turned r u (at l))
-          (to-at k (at l) (xs l) (turned u) r (region-at l u e ∙ reg) (rw (index-turned r u (at l), e r, ← bytes-at m r) (z .1)) j b))
+      newly i u e y = subst (λ (i : Lane). Has (storeTo k (at i) (xs i) (turned u))) y (turned-at k (at l) (xs l) m u e (inside l h t) r reg j b)
 
-      before : (i : Lane) (u : Contents) → i .0 < n → on i ≡ true → Same u (m .bytes) → l .0 < i .0
-          → getD (bytesAt r (storeTo k (at i) (xs i) (turned u))) (indexIn (memoryAt r m) (at l) + j) 0 ≡ getD (bytesAt r u) (indexIn (memoryAt r m) (at l) + j) 0
-      before i u p q e y =
-          let z = fits l h t reg in
-          to-unwritten k (at i) (xs i) (turned u) r (indexIn (memoryAt r m) (at l) + j)
-          (λ s f g.
-          let v = fits i p q (sym (region-at i u e) ∙ s) in
-          let f1 : indexIn (memoryAt r m) (at i) ≤ indexIn (memoryAt r m) (at l) + j = rw (← index-turned r u (at i)) f in
-          let g1 : indexIn (memoryAt r m) (at l) + j < indexIn (memoryAt r m) (at i) + w = rw (← index-turned r u (at i)) g in
-          o i y p q (omega arith) (omega arith))
+      -- lane i stores the same byte there, or none
+      still : (i : Lane) (u : Contents) → i .0 < n → on i ≡ true → Same u (m .bytes) → Has u → Has (storeTo k (at i) (xs i) (turned u))
+      still i u p q e y =
+          turned-keeps k (at i) (xs i) m u e (inside i p q) r (indexIn (memoryAt r m) (at l) + j) (getD (leBytes w (xs l)) j 0) y
+          (λ f g z.
+          let a = inside-true (memoryAt r m) w (at i) (inside-at m w (at i) (inside i p q) r f) in
+          let c = inside-true (memoryAt r m) w (at l) (inside-at m w (at l) (inside l h t) r reg) in
+          let s = all-agreed n on k at xs agree i l p h q t (at l + j) (omega (arith, a .0, c .0), omega (arith, a .0, c .0)) (omega arith, omega arith) in
+          let d : (indexIn (memoryAt r m) (at l) + j) - indexIn (memoryAt r m) (at i) ≡ (at l + j) - at i = omega (arith, a .0, c .0) in
+          let o : (at l + j) - at l ≡ j = omega arith in
+          ap (λ (v : ℕ). getD (leBytes w (xs i)) v 0) d ∙ s ∙ ap (λ (v : ℕ). getD (leBytes w (xs l)) v 0) o)

@@ -1,3 +1,4 @@
 pub mod Access
+pub mod Agree
 pub mod Laws
 pub mod Cases

@@ -1,9 +1,9 @@
 -- A memory: bytes lent at a base address, and one access to it.
 use mathlib.Core.Bool.{Bool, _&&_}
 use mathlib.Core.List.{List}
-use Prim.Native.Nat.{ℕ, _+_, _-_, _^_, _≤_}
-use lib.Dec.{leb}
-use lib.ListN.{length}
+use Prim.Native.Nat.{ℕ, _+_, _-_, _^_, _≤_, _<_}
+use lib.Dec.{leb, ltb}
+use lib.ListN.{length, getD}
 use lib.Seq.{sets}
 use Rattle.word.specs.Word.{extendOf}
 use Rattle.isa.specs.declared.LoadOp.{LoadOp}
@@ -52,6 +52,13 @@ widthOf store.W = 4
 abbrev pub insideOf : Memory → ℕ → ℕ → Bool
 insideOf m n a = leb (m .base) a && leb (a + n) (endOf m)
 
+-- an access of n bytes at the address b has the address a: the test, and the facts
+abbrev pub hasOf : ℕ → ℕ → ℕ → Bool
+hasOf n b a = leb b a && ltb a (b + n)
+
+abbrev pub Has : ℕ → ℕ → ℕ → Type 0
+Has n b a = (b ≤ a) × (a < b + n)
+
 -- the index of the byte at the address a
 abbrev pub indexIn : Memory → ℕ → ℕ
 indexIn m a = a - m .base
@@ -71,3 +78,7 @@ loadOf k m a = widenOf k (leAt (sizeOf k) (m .bytes) (indexIn m a))
 -- the bytes after a store of x at the address a
 abbrev pub storeOf : StoreOp → ℕ → ℕ → Memory → List ℕ
 storeOf k a x m = sets (m .bytes) (indexIn m a) (leBytes (widthOf k) x)
+
+-- the byte at the address a of the word x, which is stored at the address b
+abbrev pub byteAt : StoreOp → ℕ → ℕ → ℕ → ℕ
+byteAt k b x a = getD (leBytes (widthOf k) x) (a - b) 0

@@ -6,6 +6,7 @@ pub mod Stores
 pub mod Used
 pub mod Twins
 pub mod Written
+pub mod Clashes
 pub mod Lanes
 pub mod Private
 pub mod Prefixes

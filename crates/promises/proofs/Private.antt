@@ -15,14 +15,14 @@ use Rattle.lanes.specs.declared.Lane.{Lane}
 use Rattle.lanes.specs.Mask.{lane}
 use Rattle.lanes.specs.Lanes.{lanesMax, laneOf, okIf}
 use Rattle.lanes.proofs.Laws.{all-at, ok-at}
-use Rattle.memory.specs.Memory.{sizeOf, widthOf}
+use Rattle.memory.specs.Memory.{sizeOf, widthOf, Has}
 use Rattle.memory.specs.Address.{ownPlace, privateOf, inWordAt, inWord}
 use Rattle.memory.specs.LaneAccess.{allInWord}
 use Rattle.warp.specs.declared.Fixed.{Fixed}
 use Rattle.definition.specs.State.{State, fixedOf, active, privateIn, laneAt}
-use Rattle.definition.specs.Refuse.{someOutside, refusalsOf}
+use Rattle.definition.specs.Refuse.{someOutside, someClash, refusalsOf}
 use Rattle.definition.proofs.Sound.{step-clear}
-use Rattle.promises.specs.Lanes.{isActive, Has}
+use Rattle.promises.specs.Lanes.{isActive}
 use Rattle.promises.specs.Private.{Reaches, loads, stores, ownBytes, LanesApart, StepsApart}
 use Rattle.promises.proofs.Stores.{active-below}
 use Rattle.promises.proofs.Written.{fixed-of}
@@ -103,7 +103,7 @@ module _ (m : State) (l : Lane) (t : isActive m l ≡ true) where
   fits : (a n u : ℕ) (i : Instr) → Reaches m l a i n u → first (refusalsOf i m) ≡ 0 → inWordAt n u ≡ true
   unfolding refusalsOf
   fits a n u i (loads k r x off b) z = in-word (sizeOf k) x off (passed [] (9 ⇒ someOutside (sizeOf k) (laneAt Private x off m) m ∷ []) 14 _ refl z)
-  fits a n u i (stores k x y off b) z = in-word (widthOf k) x off (passed [] (9 ⇒ someOutside (widthOf k) (laneAt Private x off m) m ∷ []) 14 _ refl z)
+  fits a n u i (stores k x y off b) z = in-word (widthOf k) x off (passed [] (9 ⇒ someOutside (widthOf k) (laneAt Private x off m) m ∷ 15 ⇒ someClash k (laneAt Private x off m) y m ∷ []) 14 _ refl z)
 
 -- ---- the promises
 

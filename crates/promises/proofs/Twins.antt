@@ -2,7 +2,7 @@
 use Prim.Native.Nat.{ℕ, _<_}
 use mathlib.Core.Path.{_≡_, refl, ap, ap₂, _∙_}
 use mathlib.Core.Bool.{Bool, true, not, _&&_}
-use mathlib.Core.List.{List, [], _∷_}
+use mathlib.Core.List.{List, [], _∷_, _++_}
 use lib.Dec.{eqb}
 use lib.ListN.{length, getD}
 use Rattle.answer.specs.Rows.{Row, _⇒_, first}
@@ -20,6 +20,7 @@ use Rattle.lanes.proofs.Laws.{lane-only, operand-only, uniform-only, value-only
 use Rattle.lanes.proofs.MaskLaws.{wants-only}
 use Rattle.memory.specs.Memory.{sizeOf, widthOf}
 use Rattle.memory.specs.Memories.{Region, Contents, bytesAt}
+use Rattle.memory.proofs.Agree.{agree-only}
 use Rattle.memory.proofs.Laws.{address-only, word-only, inside-only, store-only}
 use Rattle.warp.specs.declared.Warp.{Warp}
 use Rattle.warp.specs.Warp.{next, writeX}
@@ -116,7 +117,9 @@ module _ (m : State) (u : List ℕ) where
   compared (I.VLoad e k r a n) = record { rows = λ s. rows-same e a n (sizeOf k) s; twin = gives (λ l. load e k r a n) (λ l s. ap (λ (x : ℕ). loaded k x m) (at-same e a n l s)) }
   compared (I.VStore e k a b n) =
       record {
-        rows = λ s. rows-same e a n (widthOf k) s;
+        rows = λ s. ap₂ _++_ (rows-same e a n (widthOf k) s)
+            (ap (λ (t : Bool). 15 ⇒ not t ∷ []) (agree-only (fixedOf m .numt) (active m) k (laneAt e a n m) (laneAt e a n (withFile u m)) (laneOf (m .vector) b) (laneOf u b)
+            (λ l h t. at-same e a n l (s l h t)) (λ l h t. s l h t b)));
         twin = stores-both
             (λ p h r j c. lanes-become m p r j c e k a b n h)
             (λ s. store-only (fixedOf m .numt) (active m) (memoryOf m) (laneAt e a n m) (laneAt e a n (withFile u m)) (λ l h t. at-same e a n l (s l h t)) k

@@ -1,15 +1,13 @@
 -- What a store touches, what a byte becomes and what a lane is given look at no pending prefix.
 use Prim.Native.Nat.{ℕ}
-use mathlib.Core.Path.{_≡_, refl, sym, subst}
+use mathlib.Core.Path.{_≡_, refl}
 use Rattle.isa.specs.declared.Instr.{Instr}
 use Rattle.isa.specs.declared.Prefix.{Prefix}
 use Rattle.isa.specs.declared.Source.{Source}
 use Rattle.isa.specs.declared.Source.the-variants as From
 use Rattle.isa.specs.declared.VReg.{VReg}
-use Rattle.word.specs.Word.{applyOf, extendOf}
+use Rattle.word.specs.Word.{extendOf}
 use Rattle.lanes.specs.declared.Lane.{Lane}
-use Rattle.lanes.specs.declared.Operand.{Operand}
-use Rattle.lanes.specs.Lanes.{laneOf, operandOf}
 use Rattle.warp.specs.Warp.{withPrefix}
 use Rattle.definition.specs.State.{State, state}
 use Rattle.definition.specs.Exec.{immediateOf, sourceOf}
@@ -45,7 +43,7 @@ module _ (q : Prefix) (m : State) where
   pub becomes-back : {a old new : ℕ} {i : Instr} → Becomes (other q m) a old new i → Becomes m a old new i
   becomes-back (W.stays t e) = W.stays (λ x. t (touches-other q m x)) e
   becomes-back (W.byScalar k x y n h e) = W.byScalar k x y n h e
-  becomes-back (W.byLane s k x y n l t h u e) = W.byLane s k x y n l t h u e
+  becomes-back (W.byLanes s k x y n l t h e) = W.byLanes s k x y n l t h e
 
   pub gives-back : {l : Lane} {i : Instr} {r : VReg} {y : ℕ} → Gives (other q m) l i r y → Gives m l i r y
   gives-back g = gives-other (m .warp .prefix) (other q m) g

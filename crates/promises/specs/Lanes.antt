@@ -1,5 +1,5 @@
 -- A step works for its active lanes alone: an inactive lane keeps its registers, writes no byte and influences nothing.
-use Prim.Native.Nat.{ℕ, _+_, _≤_, _<_}
+use Prim.Native.Nat.{ℕ, _+_, _<_}
 use mathlib.Core.Path.{_≡_}
 use mathlib.Core.Bool.{Bool, true, false, not, _&&_}
 use mathlib.Core.List.{List}
@@ -13,7 +13,7 @@ use Rattle.isa.specs.declared.XReg.{XReg}
 use Rattle.isa.specs.declared.VReg.{VReg}
 use Rattle.lanes.specs.declared.Lane.{Lane}
 use Rattle.lanes.specs.Lanes.{lanesMax, laneOf}
-use Rattle.memory.specs.Memory.{widthOf}
+use Rattle.memory.specs.Memory.{widthOf, Has}
 use Rattle.memory.specs.Memories.{Region, bytesAt, memoryAt}
 use Rattle.warp.specs.WellFormed.{wellFormedOf}
 use Rattle.definition.specs.State.{State, state, Outcome, fixedOf, active, memoryOf, scalarAt, laneAt, instrAt}
@@ -51,10 +51,6 @@ pub record Alike (on : Lane → Bool) (o p : Outcome) : Type 0 where
 -- the address of byte j of the memory r
 abbrev pub addressIn : Region → ℕ → State → ℕ
 addressIn r j m = memoryAt r (memoryOf m) .base + j
-
--- an access of n bytes at the address b has the address a
-abbrev pub Has : ℕ → ℕ → ℕ → Type 0
-Has n b a = (b ≤ a) × (a < b + n)
 
 -- the instruction's store has the address a: a scalar store's one access, or an active lane's. No other instruction stores
 pub data Touches (m : State) (a : ℕ) : Instr → Type 0 where

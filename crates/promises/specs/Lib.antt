@@ -2,6 +2,7 @@ pub mod Reached
 pub mod Splits
 pub mod Lanes
 pub mod Written
+pub mod Clashes
 pub mod Private
 pub mod Prefixes
 pub mod Runs

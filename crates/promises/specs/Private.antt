@@ -11,11 +11,11 @@ use Rattle.isa.specs.declared.StoreOp.{StoreOp}
 use Rattle.isa.specs.declared.VReg.{VReg}
 use Rattle.lanes.specs.declared.Lane.{Lane}
 use Rattle.lanes.specs.Lanes.{lanesMax, laneOf}
-use Rattle.memory.specs.Memory.{sizeOf, widthOf}
+use Rattle.memory.specs.Memory.{sizeOf, widthOf, Has}
 use Rattle.memory.specs.Address.{ownPlace, inWordAt}
 use Rattle.definition.specs.State.{State, fixedOf, laneAt, instrAt}
 use Rattle.definition.specs.Step.{stepOf}
-use Rattle.promises.specs.Lanes.{isActive, Has}
+use Rattle.promises.specs.Lanes.{isActive}
 
 -- lane l's private access by the instruction, n bytes at the place u of its own memory, has the byte at the address a: `Reaches m l a instruction n u`
 pub data Reaches (m : State) (l : Lane) (a : ℕ) : Instr → ℕ → ℕ → Type 0 where

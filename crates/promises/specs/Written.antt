@@ -1,5 +1,5 @@
 -- What a step that was taken leaves: each byte of the memories, each word of an active lane, and what 'one value' of the active lanes is.
-use Prim.Native.Nat.{ℕ, _-_, _<_}
+use Prim.Native.Nat.{ℕ, _<_}
 use mathlib.Core.Path.{_≡_}
 use mathlib.Core.Bool.{true, false}
 use mathlib.Core.List.{List}
@@ -19,30 +19,24 @@ use Rattle.isa.specs.declared.VReg.{VReg}
 use Rattle.lanes.specs.declared.Lane.{Lane}
 use Rattle.isa.specs.Bounds.{vectorRegisters}
 use Rattle.lanes.specs.Lanes.{laneOf, operandOf, valueOf}
-use Rattle.memory.specs.Bytes.{leBytes}
-use Rattle.memory.specs.Memory.{widthOf}
+use Rattle.memory.specs.Memory.{widthOf, Has, byteAt}
 use Rattle.memory.specs.Memories.{Region, bytesAt, loadFrom}
 use Rattle.warp.specs.Warp.{readX}
 use Rattle.definition.specs.State.{State, fixedOf, active, xOf, memoryOf, scalarAt, laneAt, instrAt}
 use Rattle.definition.specs.Refuse.{mixed, stepTests}
 use Rattle.definition.specs.Exec.{immediateOf, sourceOf}
 use Rattle.definition.specs.Step.{stepOf}
-use Rattle.promises.specs.Lanes.{isActive, addressIn, Has, Touches}
+use Rattle.promises.specs.Lanes.{isActive, addressIn, Touches}
 
 -- ---- bytes
 
--- the byte at the address a of the word x, which is stored at the address b
-abbrev pub byteAt : StoreOp → ℕ → ℕ → ℕ → ℕ
-byteAt k b x a = getD (leBytes (widthOf k) x) (a - b) 0
-
--- the instruction leaves the byte `new` where `old` was, at the address a: its store doesn't touch it; or it is the scalar store's; or that of active lane l, and no higher
--- active lane's access has the address
+-- the instruction leaves the byte `new` where `old` was, at the address a: its store doesn't touch it; or it is the scalar store's; or active lane l's access has the
+-- address, and it is the byte of every active lane whose access has
 pub data Becomes (m : State) (a old new : ℕ) : Instr → Type 0 where
   stays : {i : Instr} → (Touches m a i → ⊥) → new ≡ old → Becomes m a old new i
   byScalar : (k : StoreOp) (x y : XReg) (n : ℕ) → Has (widthOf k) (scalarAt x n m) a → new ≡ byteAt k (scalarAt x n m) (xOf y m) a → Becomes m a old new (I.Store k x y n)
-  byLane : (s : Space) (k : StoreOp) (x y : VReg) (n : ℕ) (l : Lane) → isActive m l ≡ true → Has (widthOf k) (laneAt s x n m l) a
-      → ((h : Lane) → l .0 < h .0 → isActive m h ≡ true → Has (widthOf k) (laneAt s x n m h) a → ⊥)
-      → new ≡ byteAt k (laneAt s x n m l) (laneOf (m .vector) y l) a → Becomes m a old new (I.VStore s k x y n)
+  byLanes : (s : Space) (k : StoreOp) (x y : VReg) (n : ℕ) (l : Lane) → isActive m l ≡ true → Has (widthOf k) (laneAt s x n m l) a
+      → ((h : Lane) → isActive m h ≡ true → Has (widthOf k) (laneAt s x n m h) a → new ≡ byteAt k (laneAt s x n m h) (laneOf (m .vector) y h) a) → Becomes m a old new (I.VStore s k x y n)
 
 -- ---- lanes
 

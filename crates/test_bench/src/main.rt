@@ -32,6 +32,8 @@ fn examples() {
         b"extended/data.bin",
     );
     case(b"x64/card.bin", b"x64/kernel.bin", b"x64/data.bin");
+    case(b"race/card.bin", b"race/kernel.bin", b"race/data.bin");
+    case(b"agree/card.bin", b"agree/kernel.bin", b"agree/data.bin");
 }
 
 // Cards that are missing, or whose length, version or total is wrong.

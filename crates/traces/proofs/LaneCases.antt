@@ -1,35 +1,41 @@
 -- The promises on lanes at steps that are taken, by lanes 0 and 2 of 4.
-use Prim.Native.Nat.{ℕ, zero, suc, _+_, _*_, _≤_, _<_}
+use Prim.Native.Nat.{ℕ, zero, suc, _+_, _*_, _%_, _≤_, _<_}
 use mathlib.Core.Path.{_≡_, refl, sym, ap}
 use mathlib.Core.Bool.{true, false, true≢false}
 use mathlib.Core.List.{List, [], _∷_}
+use mathlib.Core.Logic.{inl, inr, ⊎-elim}
 use native.Mathlib.Omega.{arith}
 use lib.Dec.{lit≤}
 use lib.ListN.{getD, length-set, replicate, set}
 use lib.Seq.{getD-set-other}
 use borrow.Author.Tests.{eqb-false, not-true}
 use Rattle.isa.specs.Fields.{x}
+use Rattle.answer.specs.Rows.{Iff}
+use Rattle.isa.specs.declared.Instr.the-variants as I
 use Rattle.isa.specs.declared.Space.the-variants.{Plain}
 use Rattle.isa.specs.declared.StoreOp.the-variants as S
 use Rattle.isa.specs.declared.VReg.{VReg}
 use Rattle.lanes.specs.declared.Lane.{Lane}
 use Rattle.lanes.specs.Mask.{lane}
 use Rattle.lanes.specs.Lanes.{lanesMax, fileWords, slotOf, laneOf, writeLanes, valueOf}
+use Rattle.memory.specs.Memory.{Has}
 use Rattle.memory.specs.Memories.{Data, Local, contents, alone}
 use Rattle.warp.specs.WellFormed.{wellFormedOf}
-use Rattle.definition.specs.State.{State, state, active, laneAt, instrAt}
+use Rattle.definition.specs.State.{State, state, active, memoryOf, laneAt, instrAt}
 use Rattle.definition.specs.Refuse.{mixed}
 use Rattle.definition.specs.Step.{stepOf}
 use Rattle.definition.specs.Calls.{launchedOf}
 use Rattle.definition.proofs.Computes.{computes}
 use Rattle.traces.specs.Bound.{launchOn}
-use Rattle.promises.specs.Lanes.{isActive, Has, SameLane, Agree, allBut, withFile, Alike, Touches}
+use Rattle.promises.specs.Lanes.{isActive, SameLane, Agree, allBut, withFile, Alike, Touches}
 use Rattle.promises.specs.Lanes as L
 use Rattle.promises.specs.Written.{Becomes, LaneLeft}
+use Rattle.promises.specs.Clashes.{Agreeing, In, inOrder}
 use Rattle.promises.specs.Private.{Reaches}
 use Rattle.promises.specs.Private as P
 use Rattle.promises.proofs.Stores.{active-below}
 use Rattle.promises.proofs.Written.{written, lane-words, one-value, move-shares}
+use Rattle.promises.proofs.Clashes.{clashes, any-order}
 use Rattle.promises.proofs.Private.{steps-apart}
 use Rattle.promises.proofs.Lanes.{active-mask, kept, unwritten, all-but, unseen, unfelt, lane-alone}
 
@@ -111,14 +117,13 @@ stays : getD (stepOf storing start .left .bytes .dataBytes) 2 0 ≡ 0
 unfolding start
 stays = unwritten storing start Data .1 2 (lit≤ tt) untouched
 
--- written: all four lanes at address 0, with the words 10 to 13. Lane 2, the highest active one, wins: not lane 0, and not lane 3, which is not active
-unfoldable together : State
-together =
-    state (launchedOf (launchOn 4 0b0101)) (writeLanes 4 (λ l. true) (vreg 2) (λ l. 10 + l .0) (replicate fileWords 0)) (alone (replicate 8 0))
+-- 4 lanes at address 0 of 8 bytes, of which 0 and 2 are active, with the words f in v2
+abbrev all-at-zero : (Lane → ℕ) → State
+all-at-zero f = state (launchedOf (launchOn 4 0b0101)) (writeLanes 4 (λ l. true) (vreg 2) f (replicate fileWords 0)) (alone (replicate 8 0))
 
-highest : getD (stepOf storing together .left .bytes .dataBytes) 0 0 ≡ 12
-unfolding computes together
-highest = refl
+-- written: lanes 0 and 2 store 12, which lanes 1 and 3, with 13, would not
+unfoldable together : State
+together = all-at-zero (λ l. 12 + l .0 % 2)
 
 accepted : stepOf storing together .code ≡ 0
 unfolding computes together
@@ -127,6 +132,38 @@ accepted = refl
 byte-of : Becomes together 0 0 12 (instrAt storing together)
 unfolding computes together
 byte-of = written storing together accepted Data 0 (lit≤ tt)
+
+-- any-order: lane 2 before lane 0
+is-storing : instrAt storing together ≡ I.VStore Plain S.B (vreg 1) (vreg 2) 0
+unfolding computes together
+is-storing = refl
+
+two-first : (l : Lane) → Iff (In l (lane 2 ∷ lane 0 ∷ [])) (isActive together l ≡ true)
+unfolding computes together
+two-first l = (⊎-elim (λ e. ap (isActive together) e) (λ n. ⊎-elim (λ e. ap (isActive together) e) (λ z. absurd z) n), λ a. by (l .0) a)
+  where
+    by : (l : ℕ) → isActive together (lane l) ≡ true → In (lane l) (lane 2 ∷ lane 0 ∷ [])
+    by zero a = inr (inl refl)
+    by (suc zero) a = absurd (true≢false (sym a))
+    by (suc (suc zero)) a = inl refl
+    by (suc (suc (suc zero))) a = absurd (true≢false (sym a))
+    by (suc (suc (suc (suc l)))) a = absurd (omega (arith, active-below together (lane (suc (suc (suc (suc l))))) a .0))
+
+in-that-order : stepOf storing together .left .bytes
+    ≡ inOrder (lane 2 ∷ lane 0 ∷ []) S.B (laneAt Plain (vreg 1) 0 together) (laneOf (together .vector) (vreg 2)) (memoryOf together)
+in-that-order = any-order storing together Plain S.B (vreg 1) (vreg 2) 0 is-storing accepted (lane 2 ∷ lane 0 ∷ []) two-first
+
+-- clashes: lanes 0 and 2 store 10 and 12
+unfoldable racing : State
+racing = all-at-zero (λ l. 10 + l .0)
+
+clash : stepOf storing racing .code ≡ 15
+unfolding computes racing
+clash = refl
+
+not-agreeing : Agreeing racing Plain S.B (vreg 1) (vreg 2) 0 → ⊥
+unfolding computes racing
+not-agreeing = clashes storing racing Plain S.B (vreg 1) (vreg 2) 0 refl refl .refused .0 refl
 
 -- the same in a local memory at address 0, the data memory having no bytes; were both there, they would overlap
 near : List ℕ → State

@@ -1,4 +1,4 @@
--- Worked steps, beside the trace cards: stores of each size, loads of each kind, private accesses taken and refused, divisions, CSRs read and written, words behind prefixes.
+-- Worked steps, beside the trace cards: stores of each size, stores that clash and that agree, loads of each kind, private accesses taken and refused, divisions, CSRs read and written, words behind prefixes.
 use Prim.Native.Nat.{ℕ}
 use mathlib.Core.List.{List, [], _∷_, _++_}
 use lib.ListN.{getD, take, drop, replicate}
@@ -62,10 +62,13 @@ module _ (M : Machine) where
       o .code ∷ o .left .warp .pc ∷ take 4 (drop 64 (o .left .vector))
 
   -- a lane store of v2: the answer, PC, the data
-  abbrev stored : ℕ → List ℕ → List ℕ
-  stored word v1 =
-      let o : Outcome = M .step (word ∷ []) (start v1 (0xA1A2A3A4 ∷ 0xB1B2B3B4 ∷ 0xC1C2C3C4 ∷ 0xD1D2D3D4 ∷ [])) in
+  abbrev storedOf : ℕ → List ℕ → List ℕ → List ℕ
+  storedOf word v1 v2 =
+      let o : Outcome = M .step (word ∷ []) (start v1 v2) in
       o .code ∷ o .left .warp .pc ∷ o .left .bytes .dataBytes
+
+  abbrev stored : ℕ → List ℕ → List ℕ
+  stored word v1 = storedOf word v1 (0xA1A2A3A4 ∷ 0xB1B2B3B4 ∷ 0xC1C2C3C4 ∷ 0xD1D2D3D4 ∷ [])
 
   -- loads of v2 at v1 − 1: lane 1, whose address is outside, isn't active and keeps its 9
   abbrev loaded : ℕ → List ℕ
@@ -106,10 +109,18 @@ module _ (M : Machine) where
       ∷ loaded 0xFFF0A17B gives (0 ∷ 0x80000004 ∷ 0x11FF8180 ∷ 9 ∷ 0xFF81807F ∷ 0x84332211 ∷ [])
       ∷ loaded 0xFFF0C17B gives (0 ∷ 0x80000004 ∷ 0x80 ∷ 9 ∷ 0x7F ∷ 0x11 ∷ [])
       ∷ loaded 0xFFF0D17B gives (0 ∷ 0x80000004 ∷ 0x8180 ∷ 9 ∷ 0x807F ∷ 0x2211 ∷ [])
-      -- VSB12, VSH12, VSW12 v2, 16(v1): at 18, 17 and 21, the higher lane over the lower
+      -- VSB12, VSH12, VSW12 v2, 16(v1): bytes at 18, 17 and 21, halves at 19, 17 and 21, words at 25, 17 and 21
       ∷ stored 0x0020F87B (0x1002 ∷ 0 ∷ 0x1001 ∷ 0x1005 ∷ []) gives (0 ∷ 0x80000004 ∷ (low ++ (0 ∷ 0xC4 ∷ 0xA4 ∷ 0 ∷ 0 ∷ 0xD4 ∷ replicate 10 0)))
-      ∷ stored 0x0020B87B (0x1002 ∷ 0 ∷ 0x1001 ∷ 0x1005 ∷ []) gives (0 ∷ 0x80000004 ∷ (low ++ (0 ∷ 0xC4 ∷ 0xC3 ∷ 0xA3 ∷ 0 ∷ 0xD4 ∷ 0xD3 ∷ replicate 9 0)))
-      ∷ stored 0x0020E87B (0x1002 ∷ 0 ∷ 0x1001 ∷ 0x1005 ∷ []) gives (0 ∷ 0x80000004 ∷ (low ++ (0 ∷ 0xC4 ∷ 0xC3 ∷ 0xC2 ∷ 0xC1 ∷ 0xD4 ∷ 0xD3 ∷ 0xD2 ∷ 0xD1 ∷ replicate 7 0)))
+      ∷ stored 0x0020B87B (0x1003 ∷ 0 ∷ 0x1001 ∷ 0x1005 ∷ []) gives (0 ∷ 0x80000004 ∷ (low ++ (0 ∷ 0xC4 ∷ 0xC3 ∷ 0xA4 ∷ 0xA3 ∷ 0xD4 ∷ 0xD3 ∷ replicate 9 0)))
+      ∷ stored 0x0020E87B (0x1009 ∷ 0 ∷ 0x1001 ∷ 0x1005 ∷ []) gives (0 ∷ 0x80000004 ∷ (low ++ (0 ∷ 0xC4 ∷ 0xC3 ∷ 0xC2 ∷ 0xC1 ∷ 0xD4 ∷ 0xD3 ∷ 0xD2 ∷ 0xD1 ∷ 0xA4 ∷ 0xA3 ∷ 0xA2 ∷ 0xA1 ∷ replicate 3 0)))
+      -- 15: bytes of lanes 0 and 3 at 17; halves of lanes 0 and 2 that meet in one byte, words that meet in three; with a lane outside, 9
+      ∷ stored 0x0020F87B (0x1001 ∷ 0 ∷ 0x1002 ∷ 0x1001 ∷ []) gives (15 ∷ 0x80000000 ∷ (low ++ replicate 16 0))
+      ∷ stored 0x0020B87B (0x1002 ∷ 0 ∷ 0x1001 ∷ 0x1005 ∷ []) gives (15 ∷ 0x80000000 ∷ (low ++ replicate 16 0))
+      ∷ stored 0x0020E87B (0x1001 ∷ 0 ∷ 0x1002 ∷ 0x1008 ∷ []) gives (15 ∷ 0x80000000 ∷ (low ++ replicate 16 0))
+      ∷ stored 0x0020B87B (0x1002 ∷ 0 ∷ 0x1001 ∷ 0x100F ∷ []) gives (9 ∷ 0x80000000 ∷ (low ++ replicate 16 0))
+      -- equal bytes pass: words at 17, 18 and 20; lane 1, whose word is another, isn't active
+      ∷ storedOf 0x0020E87B (0x1001 ∷ 0x1001 ∷ 0x1002 ∷ 0x1004 ∷ []) (0x55555555 ∷ 0xB1B2B3B4 ∷ 0x66555555 ∷ 0x77886655 ∷ []) gives
+      (0 ∷ 0x80000004 ∷ (low ++ (0 ∷ 0x55 ∷ 0x55 ∷ 0x55 ∷ 0x55 ∷ 0x66 ∷ 0x88 ∷ 0x77 ∷ replicate 8 0)))
       -- the private byte load and store, −1(v1), at the places 1, 0, 3 and 4, 6, 7 of lanes 0, 2, 3: a lane's word 0 is at 4·lane, its word 1 at 16 + 4·lane
       ∷ lanes 0x7FF0812B (2 ∷ 7 ∷ 1 ∷ 4 ∷ []) (replicate 4 9) gives (0 ∷ 0x80000004 ∷ 0xFFFFFF80 ∷ 9 ∷ 0xFFFFFF91 ∷ 0xFFFFFF98 ∷ [])
       ∷ stored 0x7E20FFAB (5 ∷ 5 ∷ 7 ∷ 8 ∷ []) gives (0 ∷ 0x80000004 ∷ (low ++ (0xA4 ∷ replicate 9 0 ++ (0xC4 ∷ 0 ∷ 0 ∷ 0 ∷ 0 ∷ 0xD4 ∷ []))))

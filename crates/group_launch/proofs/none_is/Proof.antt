@@ -5,8 +5,7 @@ use native.Mathlib.Nat.{le-antisymm}
 use native.Mathlib.Omega.{arith}
 use borrow.Author.Needs.{needs}
 use borrow.Author.Tests.{eq-eqb, ne-eqb}
-use Rattle.group.proofs.GroupLaws.{below-not}
-use Rattle.group_words.proofs.Testing.{below-none, below-more}
+use Rattle.lanes.proofs.Laws.{below-not, below-none, below-more}
 use Rattle.group_launch.specs.GroupLaunchCall.{noneIs}
 use Rattle.group_launch.proofs.none_is.Statement.{statement}
 use Rattle.group_launch.proofs.none_is.Tie as tie

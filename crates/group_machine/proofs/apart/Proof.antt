@@ -4,7 +4,7 @@ use native.Mathlib.Nat.{le-antisymm}
 use native.Mathlib.Omega.{arith}
 use borrow.Author.Needs.{needs}
 use borrow.Author.Tests.{leb-true}
-use Rattle.group.proofs.GroupLaws.{below-at}
+use Rattle.lanes.proofs.Laws.{below-at}
 use Rattle.group_machine.specs.Held.{shallowAt, Apart}
 use Rattle.group_machine.proofs.Taking.{apart-none, apart-on}
 use Rattle.group_machine.proofs.apart.Statement.{statement}

@@ -9,7 +9,8 @@ use borrow.Author.Tests.{not-true, not-false}
 use Rattle.memory.specs.Memories.{contents}
 use Rattle.warp.proofs.Chain.{mapped}
 use Rattle.definition.specs.Calls.{budgetLimit}
-use Rattle.group.specs.GroupRefuse.{warpsLimit, allBelow, sizesOkOf}
+use Rattle.lanes.specs.Lanes.{allBelow}
+use Rattle.group.specs.GroupRefuse.{warpsLimit, sizesOkOf}
 use Rattle.group_words.specs.Row.{row, fixedsIn}
 use Rattle.group_drive.specs.GroupDrives.{GroupRuns}
 use Rattle.group_machine.specs.Held.{shallowAt}

@@ -5,9 +5,8 @@ use native.Mathlib.Nat.{le-antisymm}
 use native.Mathlib.Omega.{arith}
 use borrow.Author.Needs.{needs}
 use borrow.Author.Tests.{le-leb, lt-leb}
-use Rattle.group.specs.GroupRefuse.{allBelow}
-use Rattle.group.proofs.GroupLaws.{below-not}
-use Rattle.group_words.proofs.Testing.{below-none, below-more}
+use Rattle.lanes.specs.Lanes.{allBelow}
+use Rattle.lanes.proofs.Laws.{below-not, below-none, below-more}
 use Rattle.group_machine.specs.Held.{shallowAt}
 use Rattle.group_machine.proofs.shallow.Statement.{statement}
 use Rattle.group_machine.proofs.shallow.Tie as tie

@@ -5,9 +5,9 @@ use native.Mathlib.Nat.{le-antisymm}
 use native.Mathlib.Omega.{arith}
 use borrow.Author.Needs.{needs}
 use borrow.Author.Tests.{not-true, not-false}
-use Rattle.group.specs.GroupRefuse.{allBelow}
-use Rattle.group.proofs.GroupLaws.{below-not}
-use Rattle.group_words.proofs.Testing.{below-none, below-more, placeOk, placed-is}
+use Rattle.lanes.specs.Lanes.{allBelow}
+use Rattle.lanes.proofs.Laws.{below-not, below-none, below-more}
+use Rattle.group_words.proofs.Testing.{placeOk, placed-is}
 use Rattle.group_words.proofs.placed.Statement.{statement}
 use Rattle.group_words.proofs.placed.Tie as tie
 

@@ -6,9 +6,9 @@ use native.Mathlib.Omega.{arith}
 use borrow.Author.Needs.{needs}
 use borrow.Author.Tests.{not-true, not-false}
 use Rattle.memory.specs.Memories.{contents}
-use Rattle.group.specs.GroupRefuse.{allBelow}
-use Rattle.group.proofs.GroupLaws.{below-at}
-use Rattle.group_words.proofs.Testing.{below-none, below-more, ownOk, sizes-long, sizes-own, sizes-all}
+use Rattle.lanes.specs.Lanes.{allBelow}
+use Rattle.lanes.proofs.Laws.{below-at, below-none, below-more}
+use Rattle.group_words.proofs.Testing.{ownOk, sizes-long, sizes-own, sizes-all}
 use Rattle.group_words.proofs.sizes_ok.Statement.{statement}
 use Rattle.group_words.proofs.sizes_ok.Tie as tie
 

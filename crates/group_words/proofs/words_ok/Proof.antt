@@ -1,14 +1,13 @@
 use Prim.Native.Nat.{ℕ, _-_, _≤_}
-use mathlib.Core.Path.{_≡_, sym, ap, _∙_, subst}
+use mathlib.Core.Path.{_≡_, sym, _∙_, subst}
 use mathlib.Core.Bool.{true}
 use native.Mathlib.Nat.{le-antisymm}
 use native.Mathlib.Omega.{arith}
 use borrow.Author.Needs.{needs}
 use borrow.Author.Tests.{not-true, not-false}
-use Rattle.group.specs.GroupRefuse.{allBelow}
-use Rattle.group.proofs.GroupLaws.{below-not}
+use Rattle.lanes.specs.Lanes.{allBelow}
+use Rattle.lanes.proofs.Laws.{below-not, below-none, below-more}
 use Rattle.group_words.specs.Row.{row, warpOkAt}
-use Rattle.group_words.proofs.Testing.{below-none, below-more}
 use Rattle.group_words.proofs.words_ok.Statement.{statement}
 use Rattle.group_words.proofs.words_ok.Tie as tie
 

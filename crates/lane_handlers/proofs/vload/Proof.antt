@@ -1,4 +1,5 @@
 use mathlib.Core.Path.{refl, ap, _∙_}
+use mathlib.Core.List.{[]}
 use borrow.Author.Needs.{needs}
 use Rattle.memory.specs.Memories.{contents}
 use Rattle.memory.specs.Memory.{sizeOf}
@@ -22,7 +23,7 @@ returns c =
     let t = c .before in
     let a = start t .args in
     record {
-      code = crossed (a .space) _ (a .off) (a .mask) (a .w) (a .g .now) (a .v .now) (contents (a .d .now) (a .l .now)) (t .before .size .ensures .0 ∙ ap sizeOf (kind t .load-op .ensures)) (t .some-crosses .ensures) (c .if1 .taken);
+      code = crossed (a .space) _ (a .off) (a .mask) (a .w) (a .g .now) (a .v .now) (contents (a .d .now) (a .l .now)) (t .before .size .ensures .0 ∙ ap sizeOf (kind t .load-op .ensures)) (t .some-crosses .ensures) (λ m. []) (c .if1 .taken);
       file = refl;
     }
 
@@ -46,7 +47,7 @@ returns-2 c =
     let e = uncrossed (l .before) in
     let t = e .before in
     let a = start t .args in
-    loaded-row (a .space) (a .off) (a .mask) (a .w) (a .g .now) (a .v .now) (contents (a .d .now) (a .l .now)) (n .before .lane-addresses .result) (l .load-lanes .result) (n .threads .ensures) (n .before .lane-addresses .ensures) (c .inside-number .ensures) (kind t .load-op .ensures) (l .before .vd .ensures .0)
+    loaded-row (a .space) (a .off) (a .mask) (a .w) (a .g .now) (a .v .now) (contents (a .d .now) (a .l .now)) (n .before .lane-addresses .result) (n .threads .ensures) (n .before .lane-addresses .ensures) (c .inside-number .ensures) (kind t .load-op .ensures) (l .before .vd .ensures .0)
     (not-crossed (a .space) _ (a .off) (a .mask) (a .w) (a .g .now) (a .v .now) (contents (a .d .now) (a .l .now)) (t .before .size .ensures .0) (t .some-crosses .ensures) (e .if1 .left)) (l .load-lanes .ensures)
 
 pub vload-spec : {M : Type 1} → statement M

@@ -2,6 +2,7 @@ use mathlib.Core.Path.{refl, ap, _∙_}
 use borrow.Author.Needs.{needs}
 use Rattle.memory.specs.Memories.{contents}
 use Rattle.memory.specs.Memory.{widthOf}
+use Rattle.lane_handlers.specs.Lanes.{clashRow}
 use Rattle.lane_handlers.proofs.Laws.{lanes-fit, crossed, not-crossed, stored-row}
 use Rattle.lane_handlers.proofs.vstore.Statement.{statement}
 use Rattle.lane_handlers.proofs.vstore.Tie as tie
@@ -22,7 +23,7 @@ returns c =
     let t = c .before in
     let a = start t .args in
     record {
-      code = crossed (a .space) _ (a .off) (a .mask) (a .w) (a .g .now) (a .v .now) (contents (a .d .now) (a .l .now)) (t .before .width .ensures .0 ∙ ap widthOf (kind t .lane-store-op .ensures)) (t .some-crosses .ensures) (c .if1 .taken);
+      code = crossed (a .space) _ (a .off) (a .mask) (a .w) (a .g .now) (a .v .now) (contents (a .d .now) (a .l .now)) (t .before .width .ensures .0 ∙ ap widthOf (kind t .lane-store-op .ensures)) (t .some-crosses .ensures) (clashRow (a .space) (a .off) (a .w)) (c .if1 .taken);
       bytes = refl;
     }
 
@@ -41,12 +42,12 @@ store-lanes-requires c κs =
 
 returns-2 : tie.Need-returns-2
 returns-2 c =
-    let l = c .before .before .before .before .before in
+    let l = c .before .before .before .before in
     let n = counted (l .before) in
     let e = uncrossed (l .before) in
     let t = e .before in
     let a = start t .args in
-    stored-row (a .space) (a .off) (a .mask) (a .w) (a .g .now) (a .v .now) (contents (a .d .now) (a .l .now)) (n .before .lane-addresses .result) (l .store-lanes .result) (n .threads .ensures) (n .before .lane-addresses .ensures) (c .inside-number .ensures) (kind t .lane-store-op .ensures) (l .before .vs2 .ensures .0)
+    stored-row (a .space) (a .off) (a .mask) (a .w) (a .g .now) (a .v .now) (contents (a .d .now) (a .l .now)) (n .before .lane-addresses .result) (n .threads .ensures) (n .before .lane-addresses .ensures) (kind t .lane-store-op .ensures) (l .before .vs2 .ensures .0)
     (not-crossed (a .space) _ (a .off) (a .mask) (a .w) (a .g .now) (a .v .now) (contents (a .d .now) (a .l .now)) (t .before .width .ensures .0) (t .some-crosses .ensures) (e .if1 .left)) (l .store-lanes .ensures)
 
 pub vstore-spec : {M : Type 1} → statement M
@@ -54,4 +55,4 @@ vstore-spec =
     tie.close
     (tie.spec
     (λ c κs. search needs) (λ c κs. search needs) some-crosses-requires returns
-    (λ c κs. search needs) (λ c κs. search needs) (λ c. search needs) (λ c. search needs) (λ c κs. search needs) store-lanes-requires (λ c κs. search needs) (λ c. search needs) (λ c. search needs) returns-2)
+    (λ c κs. search needs) (λ c κs. search needs) (λ c. search needs) (λ c. search needs) (λ c κs. search needs) store-lanes-requires (λ c. search needs) (λ c. search needs) returns-2)

@@ -2,6 +2,7 @@
 
 use crate::counts::{count, each, print, Counts};
 use crate::next;
+use crate::store_statistics::Stores;
 use reference::case::{evaluate, Answer, Case, GroupLent, Handed, Job, Said};
 use reference::group::{self, runs, state_words, Group, LOCAL_BYTES, WARPS};
 use reference::isa::{Insn, Prefix, Space};
@@ -24,6 +25,7 @@ struct Stats {
     warps: BTreeMap<usize, u32>,
     events: Counts,
     accesses: Counts,
+    stores: Stores,
     /// The numbers that stop a group, by whether it is warp 0.
     stops: Counts,
     steps: u32,
@@ -241,8 +243,12 @@ impl Stats {
             let stores =
                 matches!(next(warp, kernel), Some(Insn::Store { .. } | Insn::Vstore { .. }));
             if writers.touch(stepped, &addresses, size, stores) {
-                count(&mut self.accesses, "a load of another warp's store");
+                let what = if stores { "a store over" } else { "a load of" };
+                count(&mut self.accesses, format!("{what} another warp's store"));
             }
+        }
+        if let Some(insn) = next(warp, kernel) {
+            self.stores.count(&insn, warp, file, 0);
         }
         assert_eq!(step(kernel, lent), (0, 0));
         let after = group_of(&lent.state);
@@ -286,9 +292,13 @@ impl Stats {
         let which = if wid == 0 { "warp 0" } else { "another warp" };
         count(&mut self.stops, format!("{} by {which}", answer.code));
         let file = &lent.vector[run::VECTOR_WORDS * wid as usize..][..run::VECTOR_WORDS];
-        if let (9, Some((addresses, size))) = (answer.code, addresses(warp, kernel, file)) {
+        if let (9 | 15, Some((addresses, size))) = (answer.code, addresses(warp, kernel, file)) {
             let memories = memories_of(&warp.fixed, &lent, &addresses, size);
-            count(&mut self.accesses, format!("refused, {memories}"));
+            let what = if answer.code == 9 { "refused" } else { "clashing" };
+            count(&mut self.accesses, format!("{what}, {memories}"));
+        }
+        if let (9 | 14 | 15, Some(insn)) = (answer.code, next(warp, kernel)) {
+            self.stores.count(&insn, warp, file, answer.code);
         }
     }
 
@@ -299,10 +309,11 @@ impl Stats {
 
     /// What should occur, and how often it does.
     fn wanted(&self) -> Vec<(String, u32)> {
-        let stops = ["5", "6", "7", "8", "9", "10", "11", "14"]
+        let stops = ["5", "6", "7", "8", "9", "10", "11", "14", "15"]
             .map(|code| ["warp 0", "another warp"].map(|which| format!("{code} by {which}")))
             .concat();
         let stops: Vec<&str> = stops.iter().map(String::as_str).collect();
+        let stores = self.stores.counts();
         [
             each(&self.codes, &["launch 0", "launch 1", "launch 13", "step 0", "step 1"]),
             each(&self.codes, &["step 2", "step 3", "run 0", "run 1", "run 2", "run 3"]),
@@ -311,6 +322,11 @@ impl Stats {
             each(&self.events, &["the last one ends", "a split opens", "a word behind a prefix"]),
             each(&self.accesses, &["taken in data", "taken in local", "taken in data and local"]),
             each(&self.accesses, &["a load of another warp's store"]),
+            each(&self.accesses, &["a store over another warp's store", "clashing, data"]),
+            each(&self.accesses, &["clashing, local", "clashing, data and local"]),
+            each(stores, &["taken, private lanes meet", "refused 15, private lanes meet"]),
+            each(stores, &["taken, a lane that is not active would clash"]),
+            each(stores, &["refused 15, neighbours clash", "refused 15, no neighbours clash"]),
             vec![("an access across both memories".into(), self.across())],
             each(&self.states, &["zeroed", "left"]),
             each(&self.stops, &["3", "3, with a wild turn"]),
@@ -325,14 +341,14 @@ impl Stats {
 struct Writers(BTreeMap<u32, usize>);
 
 impl Writers {
-    /// Whether a load meets a byte that another warp stored.
+    /// Whether a load or store meets a byte that another warp stored last.
     fn touch(&mut self, warp: usize, addresses: &[u32], size: usize, stores: bool) -> bool {
-        let bytes = addresses.iter().flat_map(|at| (0..size as u32).map(move |n| at + n));
+        let bytes = || addresses.iter().flat_map(|at| (0..size as u32).map(move |n| at + n));
+        let others = bytes().filter_map(|byte| self.0.get(&byte)).any(|writer| *writer != warp);
         if stores {
-            self.0.extend(bytes.map(|byte| (byte, warp)));
-            return false;
+            self.0.extend(bytes().map(|byte| (byte, warp)));
         }
-        bytes.filter_map(|byte| self.0.get(&byte)).any(|writer| *writer != warp)
+        others
     }
 }
 
@@ -370,6 +386,7 @@ pub fn statistics(cases: &[Case], file: usize) {
         ("states of refused launches", &stats.states),
         ("events", &stats.events),
         ("accesses", &stats.accesses),
+        ("stores by lanes", stats.stores.counts()),
         ("stops", &stats.stops),
     ];
     print(&named, &stats.wanted(), FEWEST);

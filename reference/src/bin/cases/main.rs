@@ -11,6 +11,7 @@ mod counts;
 mod group_statistics;
 mod mark_statistics;
 mod prefix_statistics;
+mod store_statistics;
 
 use prefix_statistics::Prefixes;
 use reference::case::{evaluate, read_file, write_file, Answer, Case};
@@ -23,6 +24,7 @@ use reference::table::{name, variants};
 use reference::{card, exec, memory, run, saved};
 use std::collections::BTreeMap;
 use std::process::ExitCode;
+use store_statistics::Stores;
 
 const USAGE: &str = "usage: cases make FILE
        cases check FILE
@@ -117,6 +119,7 @@ fn answer(files: &[&str]) -> Result<(), String> {
 #[derive(Default)]
 struct Stats {
     prefixes: Prefixes,
+    stores: Stores,
     kinds: BTreeMap<&'static str, u32>,
     codes: BTreeMap<u32, u32>,
     executed: BTreeMap<String, u64>,
@@ -149,6 +152,7 @@ impl Stats {
             let before = warp.clone();
             let insn = next(&warp, kernel).expect("a word that was taken");
             self.count_private(&insn, &warp, vector, data, 0);
+            self.stores.count(&insn, &warp, vector, 0);
             assert_eq!(run::step(&mut warp, kernel, vector, data), 0);
             assert!(warp.well_formed(), "a step broke the state");
             self.prefixes.count_taken(before.prefix, &insn);
@@ -179,9 +183,10 @@ impl Stats {
         assert!(warp == before && now_vector == vector && now_data == data);
         self.prefixes.count_refused(warp.prefix, exec::fetch(&warp, kernel), code);
         if let Some(insn) = next(&warp, kernel) {
-            if matches!(code, 7..=11 | 14) {
+            if matches!(code, 7..=11 | 14 | 15) {
                 *self.refused.entry(format!("{} {}", code, name(&insn))).or_default() += 1;
                 self.count_private(&insn, &warp, vector, data, code);
+                self.stores.count(&insn, &warp, vector, code);
             }
         }
     }
@@ -317,6 +322,7 @@ fn statistics(cases: &[Case], file: usize) {
     eprintln!("refused {:?}", stats.refused);
     eprintln!("private {:?}", stats.private);
     eprintln!("private lanes, bytes at u mod 4 {:?}", stats.private_lanes);
+    stats.stores.print();
     stats.prefixes.print();
     for v in variants() {
         let times = stats.executed.get(&v.name).copied().unwrap_or(0);
@@ -324,7 +330,7 @@ fn statistics(cases: &[Case], file: usize) {
             eprintln!("TOO FEW: {} executed {times} times", v.name);
         }
     }
-    for code in 0..=14 {
+    for code in 0..=15 {
         let times = stats.codes.get(&code).copied().unwrap_or(0);
         if times < 20 {
             eprintln!("TOO FEW: code {code} occurs {times} times");

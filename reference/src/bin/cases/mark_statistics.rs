@@ -139,7 +139,7 @@ impl Stats {
             each(&self.codes, &["sheet 0", "sheet 1", "sheet 13", "sheet 17"]),
             each(&self.marks, &MARKS),
             each(&self.wrong, &FIELDS.map(|(name, _)| name)),
-            each(&self.ends, &["0", "3", "4", "5", "6", "7", "8", "9", "10", "11", "14"]),
+            each(&self.ends, &["0", "3", "4", "5", "6", "7", "8", "9", "10", "11", "14", "15"]),
             vec![("a prefix in a run".into(), self.prefixed_runs)],
         ]
         .concat()

@@ -124,7 +124,8 @@ impl Prefixes {
                 wanted.push((format!("{name} behind regexti"), times(&self.behind_regexti, name)));
             }
         }
-        let codes = ["5", "7", "8", "9", "10", "14"].map(|code| format!("{code} behind regext"));
+        let codes =
+            ["5", "7", "8", "9", "10", "14", "15"].map(|code| format!("{code} behind regext"));
         let others = ["regext, a register above 63", "regexti, no vi form"];
         let sixes = others.map(|why| format!("6 behind {why}"));
         for what in codes.into_iter().chain(sixes) {
