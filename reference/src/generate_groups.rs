@@ -378,15 +378,23 @@ fn shared_bytes(round: u32, t: &Table, out: &mut Vec<Case>) {
     }
 }
 
+/// Where the lanes of a store are.
+#[derive(Clone, Copy, PartialEq, Eq)]
+enum In {
+    Data,
+    Local,
+    /// In one and the other by turns; if the store is private, in local memory.
+    Both,
+}
+
 /// One warp's stores: those into data memory, and those into local memory.
 type InEach = [Vec<Stored>; 2];
 
-/// A private store is in one memory, a plain one in one or, lane by lane, in both.
-fn stored_in_each(rng: &mut Rng, mask: u32, size: u32, numt: Option<u32>, memory: u32) -> InEach {
+fn stored_in_each(rng: &mut Rng, mask: u32, size: u32, numt: Option<u32>, memory: In) -> InEach {
     let lanes = lanes_of(mask);
     match (memory, numt) {
-        (0, _) => [stored(rng, &lanes, size, numt), vec![]],
-        (2, None) => [0, 1].map(|odd| {
+        (In::Data, _) => [stored(rng, &lanes, size, numt), vec![]],
+        (In::Both, None) => [0, 1].map(|odd| {
             let every_other: Vec<u32> = lanes.iter().copied().skip(odd).step_by(2).collect();
             stored(rng, &every_other, size, None)
         }),
@@ -395,7 +403,8 @@ fn stored_in_each(rng: &mut Rng, mask: u32, size: u32, numt: Option<u32>, memory
 }
 
 fn shared_case(rng: &mut Rng, t: &Table, v: &Variant) -> Case {
-    let (numw, memory) = (rng.pick(&[1, 2, 2, 3]), rng.pick(&[0, 1, 2, 2]));
+    let numw = rng.pick(&[1, 2, 2, 3]);
+    let memory = rng.pick(&[In::Data, In::Local, In::Both, In::Both]);
     let off = rng.range(-40, 40);
     let (size, private) = (size_of(v), is_private(v));
     let numt = lane_count(rng, private);
@@ -414,13 +423,13 @@ fn shared_case(rng: &mut Rng, t: &Table, v: &Variant) -> Case {
     // begins as far from LDS where lanes are in both.
     let bytes = |n: usize| stores.iter().map(|each| span(&each[n], size)).max().unwrap_or(0);
     let tables = 8 * numt * numw;
-    let before = if memory == 2 { tables } else { 0 };
+    let before = if memory == In::Both { tables } else { 0 };
     g.data.total = tables + bytes(0) + rng.below(3);
     g.local.total = before + bytes(1) + rng.below(3);
     let data_base = 0x1000;
     let lds = local_base(rng, data_base, g.data.total, g.local.total);
     let targets = [data_base + tables, lds.wrapping_add(before)];
-    let pds = if memory == 0 { targets[0] } else { targets[1] };
+    let pds = if memory == In::Data { targets[0] } else { targets[1] };
     let shared = Fixed { numt, numw, data_base, lds, pds, ..g.each[0] };
     for (wid, fixed) in (0..).zip(&mut g.each) {
         *fixed = Fixed { wid, mask: fixed.mask, ..shared };

@@ -287,7 +287,7 @@ pub(crate) fn spoil_one(rng: &mut Rng, all: &mut [Stored], v: &Variant, outside:
     let at = &mut all[some].at;
     match (way, size_of(v)) {
         (0, _) => *at = outside,
-        (1, size) if is_private(v) && size > 1 => *at = *at & !3 | 5 - size + rng.below(size - 1),
+        (1, size) if is_private(v) && size > 1 => *at = *at & !3 | (5 - size + rng.below(size - 1)),
         _ => {}
     }
 }

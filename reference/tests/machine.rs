@@ -761,7 +761,7 @@ fn stores_by_the_byte() {
         let few = [1, 3, 0xff][draw() as usize % 3];
         let at: Vec<u32> = (0..numt).map(|_| draw() % room).collect();
         let values: Vec<u32> =
-            (0..numt).map(|_| draw() & 0x0101_0101 * few | 0x8000_0000).collect();
+            (0..numt).map(|_| draw() & (0x0101_0101 * few) | 0x8000_0000).collect();
         let mut l = launch(numt);
         l.fixed.mask = draw() & l.fixed.mask | 1 << (draw() % numt);
         let mut bench = Bench::launched(&l, &[s(name, 1, 2, 0)], 256);
