@@ -64,7 +64,7 @@ step-size w t p q r = by (leb w t) refl
 
 -- the most that d steps of lanes make
 abbrev most : ℕ → ℕ
-most d = d * 67108868
+most d = d * (reach + 4)
 
 -- b is above a by d steps
 record Gap (w d a b : ℕ) : Type 0 where

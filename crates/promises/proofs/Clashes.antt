@@ -33,7 +33,7 @@ use Rattle.definition.proofs.Tests.{step-rows, row-own}
 use Rattle.definition.proofs.Used.{step-within}
 use Rattle.promises.specs.Lanes.{isActive, addressIn, lane}
 use Rattle.promises.specs.Written.{Becomes, stays, byLanes}
-use Rattle.promises.specs.Clashes.{Agreeing, Clashes, ClashesLast, LaneStore, stores, OnlyLanesClash, In, inOrder, AnyOrder}
+use Rattle.promises.specs.Clashes.{Agreeing, Clashes, ClashesLast, ByLanes, stores, OnlyLanesClash, In, inOrder, AnyOrder}
 use Rattle.promises.proofs.Stores.{active-of, active-below, here, place}
 use Rattle.promises.proofs.Written.{written}
 
@@ -92,10 +92,10 @@ pub clashes-last : ClashesLast
 clashes-last k m s o x y n is z = answer k m s o x y n is ∙ first-kept (before k m s o x y n is) (15 ⇒ not (agrees k m s o x y n is) ∷ []) z
 
 module _ (m : State) where
-  none : (i : Instr) → without 15 (refusalsOf i m) ≡ true → first (refusalsOf i m) ≡ 15 → LaneStore i
+  none : (i : Instr) → without 15 (refusalsOf i m) ≡ true → first (refusalsOf i m) ≡ 15 → ByLanes i
   none i w e = absurd (not-answered 15 (refusalsOf i m) (λ z. omega arith) w e)
 
-  only : (i : Instr) → first (refusalsOf i m) ≡ 15 → LaneStore i
+  only : (i : Instr) → first (refusalsOf i m) ≡ 15 → ByLanes i
   unfolding refusalsOf
   only I.Refused e = none I.Refused refl e
   only (I.Lui r n) e = none (I.Lui r n) refl e

@@ -43,12 +43,13 @@ ClashesLast =
     (k : List ℕ) (m : State) (s : Space) (o : StoreOp) (x y : VReg) (n : ℕ) → instrAt k m ≡ I.VStore s o x y n →
     (first (stepTests k m ++ accessTests s (widthOf o) x n m) ≡ 0 → ⊥) → stepOf k m .code ≡ first (stepTests k m ++ accessTests s (widthOf o) x n m)
 
-pub data LaneStore : Instr → Type 0 where
-  stores : (s : Space) (o : StoreOp) (x y : VReg) (n : ℕ) → LaneStore (I.VStore s o x y n)
+-- a store by lanes
+pub data ByLanes : Instr → Type 0 where
+  stores : (s : Space) (o : StoreOp) (x y : VReg) (n : ℕ) → ByLanes (I.VStore s o x y n)
 
 -- No other instruction clashes: no scalar store, no load.
 abbrev pub OnlyLanesClash : Type 0
-OnlyLanesClash = (k : List ℕ) (m : State) → stepOf k m .code ≡ 15 → LaneStore (instrAt k m)
+OnlyLanesClash = (k : List ℕ) (m : State) → stepOf k m .code ≡ 15 → ByLanes (instrAt k m)
 
 -- ---- any order
 
