@@ -1145,10 +1145,10 @@ fn plain_accesses_never_cross() {
     }
 }
 
-/// The private steps that crates/traces/specs/Worked.antt works out: lanes 0, 2 and 3 of 4, warp 1
+/// The private steps and the stores by lanes that crates/traces/specs/Worked.antt works out: lanes 0, 2 and 3 of 4, warp 1
 /// of 2, data and private memory at 0x1000.
 #[test]
-fn worked_private_steps() {
+fn worked_lane_steps() {
     const LOW: [u8; 16] = [
         0x7f, 0x80, 0x81, 0xff, 0x11, 0x22, 0x33, 0x84, 0x91, 0x92, 0x93, 0x94, 0x95, 0x96, 0x97,
         0x98,
@@ -1180,7 +1180,25 @@ fn worked_private_steps() {
     assert_eq!(worked(0x0020_e02b, [4, 4, 4, 5], words), (14, words, zeros.clone()));
     assert_eq!(worked(0x0000_912b, [2, 2, 2, 3], nines), (14, nines, zeros.clone()));
     assert_eq!(worked(0x0020_e02b, [5, 4, 400, 4], words), (14, words, zeros.clone()));
-    assert_eq!(worked(0x0020_e02b, [4, 4, 400, 4], words), (9, words, zeros));
+    assert_eq!(worked(0x0020_e02b, [4, 4, 400, 4], words), (9, words, zeros.clone()));
+
+    let padded = |bytes: &[u8]| [bytes, &vec![0; 16 - bytes.len()]].concat();
+    let bytes = padded(&[0, 0xc4, 0xa4, 0, 0, 0xd4]);
+    assert_eq!(worked(0x0020_f87b, [0x1002, 0, 0x1001, 0x1005], words), (0, words, bytes));
+    let halves = padded(&[0, 0xc4, 0xc3, 0xa4, 0xa3, 0xd4, 0xd3]);
+    assert_eq!(worked(0x0020_b87b, [0x1003, 0, 0x1001, 0x1005], words), (0, words, halves));
+    let three = [words[2], words[3], words[0]].map(u32::to_le_bytes).concat();
+    let side = padded(&[&[0], &three[..]].concat());
+    assert_eq!(worked(0x0020_e87b, [0x1009, 0, 0x1001, 0x1005], words), (0, words, side));
+
+    let clash = |word, v1| assert_eq!(worked(word, v1, words), (15, words, zeros.clone()));
+    clash(0x0020_f87b, [0x1001, 0, 0x1002, 0x1001]);
+    clash(0x0020_b87b, [0x1002, 0, 0x1001, 0x1005]);
+    clash(0x0020_e87b, [0x1001, 0, 0x1002, 0x1008]);
+    assert_eq!(worked(0x0020_b87b, [0x1002, 0, 0x1001, 0x100f], words), (9, words, zeros));
+    let alike = [0x5555_5555, words[1], 0x6655_5555, 0x7788_6655];
+    let met = padded(&[0, 0x55, 0x55, 0x55, 0x55, 0x66, 0x88, 0x77]);
+    assert_eq!(worked(0x0020_e87b, [0x1001, 0x1001, 0x1002, 0x1004], alike), (0, alike, met));
 }
 
 #[test]
