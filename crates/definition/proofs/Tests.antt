@@ -9,7 +9,7 @@ use lib.ListN.{take}
 use borrow.Author.Tests.{leb-true, ne-eqb}
 use Rattle.answer.specs.Rows.{Row, _⇒_, first, oneOf, Iff}
 use Rattle.answer.specs.Answer.{lastStepNumber}
-use Rattle.answer.proofs.Rows.{both, silent, without, numbered, row-answers, numbered-first, numbered-without, numbered-under, one-holds}
+use Rattle.answer.proofs.Rows.{both, silent, without, first-silent, first-kept, zero-silent, numbered, row-answers, numbered-first, numbered-without, numbered-under, one-holds}
 use Rattle.isa.specs.declared.Instr.{Instr}
 use Rattle.isa.specs.declared.Instr.the-variants as I
 use Rattle.isa.specs.declared.Space.{Space}
@@ -18,7 +18,7 @@ use Rattle.isa.specs.Decode.{decodeOf}
 use Rattle.isa.specs.Prefix.{prefixed}
 use Rattle.warp.specs.WellFormed.{wellFormedOf}
 use Rattle.definition.specs.State.{State, Outcome, outcome, unless, fixedOf, laneAt, instrAt, usedUp}
-use Rattle.definition.specs.Refuse.{runsOkOf, onKernel, someOutside, someCrosses, accessTests, refusalsOf, stepTests, testsOf, stepNumbers}
+use Rattle.definition.specs.Refuse.{runsOkOf, onKernel, fetchTests, someOutside, someCrosses, accessTests, refusalsOf, stepTests, testsOf, stepNumbers}
 use Rattle.definition.specs.Exec.{effect, effectOf}
 use Rattle.definition.specs.Step.{carriedOut, stepOf, execOf, fetchOf}
 use Rattle.definition.proofs.Used.{tests-used}
@@ -169,29 +169,17 @@ kept-once n new used m = go (eqb n 0)
     go true = refl
     go false = refl
 
-stopped : (e b o : Bool) (rs : List (Row Bool)) → (first (3 ⇒ e ∷ 4 ⇒ b ∷ 5 ⇒ not o ∷ []) ≡ 0 → ⊥) → first (3 ⇒ e ∷ 4 ⇒ b ∷ 5 ⇒ not o ∷ rs) ≡ first (3 ⇒ e ∷ 4 ⇒ b ∷ 5 ⇒ not o ∷ [])
-stopped true b o rs z = refl
-stopped false true o rs z = refl
-stopped false false false rs z = refl
-stopped false false true rs z = absurd (z refl)
-
-found : (e b o : Bool) (rs : List (Row Bool)) → first (3 ⇒ e ∷ 4 ⇒ b ∷ 5 ⇒ not o ∷ []) ≡ 0 → first (3 ⇒ e ∷ 4 ⇒ b ∷ 5 ⇒ not o ∷ rs) ≡ first rs
-found true b o rs z = absurd (omega arith)
-found false true o rs z = absurd (omega arith)
-found false false false rs z = absurd (omega arith)
-found false false true rs z = refl
-
 module _ (k : List ℕ) (m : State) (r : runsOkOf (fixedOf m) k (m .vector) (m .bytes) ≡ true) (f : wellFormedOf (m .warp) ≡ true) where
   pub step-unfetched : (fetchOf k (m .warp) .code ≡ 0 → ⊥) → stepOf k m ≡ outcome (fetchOf k (m .warp) .code) m
   unfolding stepOf fetchOf
-  step-unfetched z = rw (r, f, stopped (m .warp .ended) (m .warp .waiting) (onKernel k (m .warp)) (refusalsOf (instrAt k m) m) z, ne-eqb _ _ z)
+  step-unfetched z = rw (r, f, first-kept (fetchTests k (m .warp)) (refusalsOf (instrAt k m) m) z, ne-eqb _ _ z)
 
   -- the instruction alone, on the state whose prefix it uses up
   pub step-fetched : fetchOf k (m .warp) .code ≡ 0
       → stepOf k m ≡ keeping (execOf (prefixed (m .warp .prefix) (decodeOf (fetchOf k (m .warp) .word))) (usedUp m)) m
   unfolding stepOf fetchOf execOf
   step-fetched z =
-      rw (r, f, found (m .warp .ended) (m .warp .waiting) (onKernel k (m .warp)) (refusalsOf (instrAt k m) m) z, z, tests-used m (instrAt k m))
+      rw (r, f, first-silent (fetchTests k (m .warp)) (refusalsOf (instrAt k m) m) (zero-silent (fetchTests k (m .warp)) refl z), z, tests-used m (instrAt k m))
       (kept-once (first (refusalsOf (instrAt k m) m)) (carriedOut (instrAt k m) (usedUp m)) (usedUp m) m)
 
 -- ---- an instruction alone

@@ -1,13 +1,12 @@
 -- From lanes apart and from pairs of stores to stores that agree.
 use mathlib.Core.Path.{_≡_, refl, sym, ap, ap₂, subst, _∙_}
-use mathlib.Core.Bool.{Bool, true, false, not, _&&_, true≢false}
+use mathlib.Core.Bool.{Bool, true, false, _&&_}
 use mathlib.Core.List.{List}
 use mathlib.Core.Logic.{_⊎_, inl, inr, ⊎-elim}
 use Prim.Native.Nat.{ℕ, zero, suc, _+_, _-_, _*_, _/_, _%_, _^_, _≤_, _<_}
 use native.Mathlib.Nat.{div-one, eq-or-lt-of-le, le-of-suc-le-suc, le-refl, lt-of-lt-of-le, le-suc}
 use native.Mathlib.Omega.{arith}
-use lib.Dec.{eqb, leb, ltb}
-use lib.Bits.{bitAnd}
+use lib.Dec.{leb, ltb}
 use lib.ListN.{getD}
 use lib.Pow.{shr-shr, mod-pow-add, field, mod-mod-pow}
 use borrow.Author.Tests.{eqb-true, eq-eqb, leb-true, leb-false, ltb-true, ltb-false, lt-ltb, le-ltb}
@@ -15,15 +14,14 @@ use Rattle.word.specs.Word.{subOf}
 use Rattle.isa.specs.declared.StoreOp.{StoreOp}
 use Rattle.lanes.specs.declared.Lane.{Lane}
 use Rattle.lanes.specs.Mask.{lane, bit}
-use Rattle.lanes.specs.Lanes.{lanesMax, okIf, maskOf}
+use Rattle.lanes.specs.Lanes.{lanesMax, okIf}
 use Rattle.lanes.specs.Rows.{at}
 use Rattle.lanes.proofs.Laws.{all-at, all-hold, ok-at, ok-when}
-use Rattle.lanes.proofs.MaskLaws.{and-bits, mask-zero}
 use Rattle.memory.specs.Bytes.{leBytes}
 use Rattle.memory.specs.Memory.{widthOf, hasOf, Has, byteAt}
 use Rattle.memory.specs.LaneAccess.{allAgree}
 use Rattle.memory.proofs.Agree.{has-true, true-has, SameBytes, Agreed, all-agreed, agreed-all}
-use Rattle.lane_clash.specs.Clash.{reach, Follows, Spread, Apart, lowSame, fromOf, meets, laneFrom, pairsFrom}
+use Rattle.lane_clash.specs.Clash.{reach, Follows, Spread, Apart, lowSame, fromOf, laneFrom, pairsFrom}
 
 pub when-both : (s t : Bool) → (s ≡ true → t ≡ true) → (t ≡ true → s ≡ true) → s ≡ t
 when-both true t f g = sym (f refl)
@@ -274,25 +272,3 @@ module _ (k : StoreOp) (mask n : ℕ) (o x : List ℕ) where
       by l h p q false false e f c i j =
           let d : l .0 ≡ h .0 = omega (arith, ltb-false (l .0) (h .0) e, ltb-false (h .0) (l .0) f) in
           ap (λ (m : ℕ). byteAt k (at o (lane m)) (at x (lane m)) c) d
-
--- a store agrees with itself
-own-from : (w a x : ℕ) → fromOf w a x a x ≡ true
-own-from w a x =
-    let d : 8 * (a - a) ≡ 0 = omega arith in
-    ok-when (hasOf w a a) (lowSame (a + w - a) (x / 2 ^ (8 * (a - a))) x)
-    (λ t. eq-eqb _ _ (ap (λ (j : ℕ). (x / 2 ^ j) % 2 ^ (8 * (a + w - a))) d ∙ ap (λ (v : ℕ). v % 2 ^ (8 * (a + w - a))) (div-one x)))
-
--- a lane that meets no other of the mask
-pub meets-none : (w mask n r : ℕ) (o x : List ℕ) (l : Lane) → mask < 2 ^ n → r ≡ maskOf n (meets w o l) → eqb (bitAnd r mask) 0 ≡ true → true ≡ laneFrom w mask n o x l
-meets-none w mask n r o x l small e z =
-    all-hold (λ h. okIf (bit mask h) (fromOf w (at o l) (at x l) (at o h) (at x h))) n
-    (λ h p. ok-when (bit mask h) (fromOf w (at o l) (at x l) (at o h) (at x h)) (λ t. by h (eqb (h .0) (l .0)) refl t (none h p)))
-  where
-    none : (h : Lane) → h .0 < n → not (bit mask h && meets w o l h) ≡ true
-    none h p =
-        all-at (λ h. not (bit mask h && meets w o l h)) n h
-        (sym z ∙ ap (λ (m : ℕ). eqb (bitAnd m mask) 0) e ∙ ap (λ (m : ℕ). eqb m 0) (and-bits (meets w o l) n mask small) ∙ mask-zero (λ h. bit mask h && meets w o l h) n) p
-
-    by : (h : Lane) (t : Bool) → eqb (h .0) (l .0) ≡ t → bit mask h ≡ true → not (bit mask h && (hasOf w (at o l) (at o h) && not (eqb (h .0) (l .0)))) ≡ true → fromOf w (at o l) (at x l) (at o h) (at x h) ≡ true
-    by h true q t s = subst (λ (i : ℕ). fromOf w (at o l) (at x l) (getD o i 0) (getD x i 0) ≡ true) (sym (eqb-true (h .0) (l .0) q)) (own-from w (at o l) (at x l))
-    by h false q t s = ok-when (hasOf w (at o l) (at o h)) _ (λ u. absurd (true≢false (sym (rw (t, u, q) at s))))

@@ -1,6 +1,6 @@
 -- What the contracts of the clash test say: lanes that stand apart, and pairs of stores of w bytes.
 use mathlib.Core.Path.{_≡_}
-use mathlib.Core.Bool.{Bool, true, not, cond, _&&_}
+use mathlib.Core.Bool.{Bool, true, not, cond}
 use mathlib.Core.List.{List}
 use Prim.Native.Nat.{ℕ, _+_, _-_, _*_, _/_, _%_, _^_, _≤_, _<_}
 use lib.Dec.{eqb}
@@ -42,13 +42,12 @@ lowSame n x y = eqb (x % 2 ^ (8 * n)) (y % 2 ^ (8 * n))
 abbrev pub fromOf : ℕ → ℕ → ℕ → ℕ → ℕ → Bool
 fromOf w a x b y = okIf (hasOf w a b) (lowSame (a + w - b) (x / 2 ^ (8 * (b - a))) y)
 
--- lane h's access begins in that of lane l, another lane
-abbrev pub meets : ℕ → List ℕ → Lane → Lane → Bool
-meets w o l h = hasOf w (at o l) (at o h) && not (eqb (h .0) (l .0))
+-- lane l's store agrees with lane h's where that begins in it, and with each of the mask's
+abbrev pub laneWith : ℕ → List ℕ → List ℕ → Lane → Lane → Bool
+laneWith w o x l h = fromOf w (at o l) (at x l) (at o h) (at x h)
 
--- lane l's store agrees with each that begins in it
 abbrev pub laneFrom : ℕ → ℕ → ℕ → List ℕ → List ℕ → Lane → Bool
-laneFrom w mask n o x l = allLanes n (λ h. okIf (bit mask h) (fromOf w (at o l) (at x l) (at o h) (at x h)))
+laneFrom w mask n o x l = allLanes n (λ h. okIf (bit mask h) (laneWith w o x l h))
 
 -- so does every lane's
 abbrev pub pairsFrom : ℕ → ℕ → ℕ → List ℕ → List ℕ → Bool

@@ -3,14 +3,14 @@ use isa::StoreOp;
 use lanes::LANES;
 use lanes::Lane;
 ghost use mathlib.Core.Path.{_≡_};
-ghost use mathlib.Core.Bool.{true};
+ghost use mathlib.Core.Bool.{true, not};
 ghost use Prim.Native.Nat.{_+_, _^_, _<_, _≤_};
 ghost use Rattle.lanes.specs.Mask.{bit, lane};
 ghost use Rattle.lanes.specs.Lanes.{lanesMax, maskOf};
 ghost use Rattle.lanes.specs.Rows.{at};
-ghost use Rattle.memory.specs.Memory.{widthOf, hasOf};
+ghost use Rattle.memory.specs.Memory.{widthOf};
 ghost use Rattle.memory.specs.LaneAccess.{allAgree};
-ghost use Rattle.lane_clash.specs.Clash.{awayOf, Follows, Spread, Apart, lowSame, fromOf, meets, laneFrom, pairsFrom, Fits};
+ghost use Rattle.lane_clash.specs.Clash.{awayOf, Follows, Spread, Apart, lowSame, fromOf, laneWith, laneFrom, pairsFrom, Fits};
 
 // ---- the usual case: each lane's access lies behind the one before, or each before it
 
@@ -90,55 +90,26 @@ fn agree(w: u32, a: u32, x: u32, b: u32, y: u32) -> bool
     low_same(w - d, x >> (8 * d), y)
 }
 
-// A store at b begins in one of w bytes at a.
-fn begins(w: u32, a: u32, b: u32) -> bool
-    requires { ⌜ a + w ≤ 2 ^ 32 ⌝ }
-    ensures { λ t. ⌜ t ≡ hasOf w a b ⌝ }
+// The lanes below n, active or not, whose store begins in lane l's and has other bytes there.
+fn differing(w: u32, l: usize, n: usize, o: &[u32; LANES], x: &[u32; LANES]) -> u32
+    requires { ⌜ (w ≤ 4) × (l < n) × (n ≤ lanesMax) × (at (now o) (lane l) + w ≤ 2 ^ 32) ⌝ }
+    ensures { λ r. ⌜ r ≡ maskOf n (λ h. not (laneWith w (now (o .entry)) (now (x .entry)) (lane l) h)) ⌝ }
 {
-    word::sub(b, a) < w
-}
-
-// The lanes below n, active or not, but for lane l, whose access begins in lane l's: a mask made without a branch.
-fn met(w: u32, l: usize, n: usize, o: &[u32; LANES]) -> u32
-    requires { ⌜ (l < n) × (n ≤ lanesMax) × (at (now o) (lane l) + w ≤ 2 ^ 32) ⌝ }
-    ensures { λ r. ⌜ r ≡ maskOf n (meets w (now (o .entry)) (lane l)) ⌝ }
-{
-    let a = o[l];
     let mut out = 0;
     let mut h = 0;
     while h < n {
-        out = lanes::with(out, Lane(h), begins(w, a, o[h]) & (h != l));
+        out = lanes::with(out, Lane(h), !agree(w, o[l], x[l], o[h], x[h]));
         h += 1;
     }
     out
 }
 
 // Lane l's store agrees with that of each lane of the mask that begins in it.
-fn agrees(w: u32, mask: u32, l: usize, n: usize, o: &[u32; LANES], x: &[u32; LANES]) -> bool
-    requires { ⌜ (w ≤ 4) × (l < n) × (n ≤ lanesMax) × (at (now o) (lane l) + w ≤ 2 ^ 32) ⌝ }
-    ensures { λ t. ⌜ t ≡ laneFrom w mask n (now (o .entry)) (now (x .entry)) (lane l) ⌝ }
-{
-    let mut h = 0;
-    while h < n {
-        if lanes::active(mask, Lane(h)) {
-            if !agree(w, o[l], x[l], o[h], x[h]) {
-                return false;
-            }
-        }
-        h += 1;
-    }
-    true
-}
-
-// Most lanes meet no other.
 fn lane_agrees(w: u32, mask: u32, l: usize, n: usize, o: &[u32; LANES], x: &[u32; LANES]) -> bool
     requires { ⌜ (w ≤ 4) × (l < n) × (n ≤ lanesMax) × (mask < 2 ^ n) × (at (now o) (lane l) + w ≤ 2 ^ 32) ⌝ }
     ensures { λ t. ⌜ t ≡ laneFrom w mask n (now (o .entry)) (now (x .entry)) (lane l) ⌝ }
 {
-    if met(w, l, n, o) & mask == 0 {
-        return true;
-    }
-    agrees(w, mask, l, n, o, x)
+    differing(w, l, n, o, x) & mask == 0
 }
 
 // Each pair of lanes, from both sides.
