@@ -21,7 +21,7 @@ use Rattle.memory.specs.Bytes.{leBytes}
 use Rattle.memory.specs.Memory.{widthOf, hasOf, Has, byteAt}
 use Rattle.memory.specs.LaneAccess.{allAgree}
 use Rattle.memory.proofs.Agree.{has-true, true-has, SameBytes, Agreed, all-agreed, agreed-all}
-use Rattle.lane_clash.specs.Clash.{reach, Follows, Spread, Apart, lowSame, fromOf, laneFrom, pairsFrom}
+use Rattle.lane_clash.specs.Clash.{reach, Follows, Spread, NoneMeet, lowSame, fromOf, laneFrom, pairsFrom}
 
 pub when-both : (s t : Bool) → (s ≡ true → t ≡ true) → (t ≡ true → s ≡ true) → s ≡ t
 when-both true t f g = sym (f refl)
@@ -121,7 +121,7 @@ module _ (w : ℕ) (small : w ≤ 4) where
         rw (e, f)
         (span-more up (d + 1) (getD o i 0) (getD o j 0) (getD o (j + 1) 0) (omega arith) (s i (omega arith) .0) (t .1) (spans d i (omega arith)) (span-step up (getD o j 0) (getD o (j + 1) 0) t))
 
-    pub spread-apart : Apart w n o
+    pub spread-apart : NoneMeet w n o
     spread-apart l h p q c x y =
         let d : ℕ = h .0 - suc (l .0) in
         let e : l .0 + (d + 1) ≡ h .0 = omega arith in
@@ -263,7 +263,7 @@ module _ (k : StoreOp) (mask n : ℕ) (o x : List ℕ) where
       when-both (pairsFrom v mask n o x) (allAgree n (bit mask) k (at o) (at x)) (λ e. sym (agreed-all n (bit mask) k (at o) (at x) (pairs-agreed (sym e))))
       (λ e. sym (agreed-pairs (all-agreed n (bit mask) k (at o) (at x) (sym e))))
 
-  pub apart-agree : Apart v n o → true ≡ allAgree n (bit mask) k (at o) (at x)
+  pub apart-agree : NoneMeet v n o → true ≡ allAgree n (bit mask) k (at o) (at x)
   apart-agree a = agreed-all n (bit mask) k (at o) (at x) (λ l h p q s t. by l h p q (ltb (l .0) (h .0)) (ltb (h .0) (l .0)) refl refl)
     where
       by : (l h : Lane) → l .0 < n → h .0 < n → (y z : Bool) → ltb (l .0) (h .0) ≡ y → ltb (h .0) (l .0) ≡ z → SameBytes k (at o l) (at x l) (at o h) (at x h)

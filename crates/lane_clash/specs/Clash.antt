@@ -29,8 +29,8 @@ abbrev pub Spread : Bool → ℕ → ℕ → List ℕ → Type 0
 Spread up w n o = (i : ℕ) → i + 1 < n → Follows up w (at o (lane i)) (at o (lane (i + 1)))
 
 -- no address is in the accesses of two lanes
-abbrev pub Apart : ℕ → ℕ → List ℕ → Type 0
-Apart w n o = (l h : Lane) → l .0 < h .0 → h .0 < n → (c : ℕ) → Has w (at o l) c → Has w (at o h) c → ⊥
+abbrev pub NoneMeet : ℕ → ℕ → List ℕ → Type 0
+NoneMeet w n o = (l h : Lane) → l .0 < h .0 → h .0 < n → (c : ℕ) → Has w (at o l) c → Has w (at o h) c → ⊥
 
 -- ---- pairs
 
@@ -54,5 +54,5 @@ abbrev pub pairsFrom : ℕ → ℕ → ℕ → List ℕ → List ℕ → Bool
 pairsFrom w mask n o x = allLanes n (λ l. okIf (bit mask l) (laneFrom w mask n o x l))
 
 -- no active lane's access goes past the last address
-abbrev pub Fits : ℕ → ℕ → ℕ → List ℕ → Type 0
-Fits w mask n o = (l : Lane) → l .0 < n → bit mask l ≡ true → at o l + w ≤ 2 ^ 32
+abbrev pub NonePast : ℕ → ℕ → ℕ → List ℕ → Type 0
+NonePast w mask n o = (l : Lane) → l .0 < n → bit mask l ≡ true → at o l + w ≤ 2 ^ 32

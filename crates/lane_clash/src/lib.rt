@@ -10,7 +10,7 @@ ghost use Rattle.lanes.specs.Lanes.{lanesMax, maskOf};
 ghost use Rattle.lanes.specs.Rows.{at};
 ghost use Rattle.memory.specs.Memory.{widthOf};
 ghost use Rattle.memory.specs.LaneAccess.{allAgree};
-ghost use Rattle.lane_clash.specs.Clash.{awayOf, Follows, Spread, Apart, lowSame, fromOf, laneWith, laneFrom, pairsFrom, Fits};
+ghost use Rattle.lane_clash.specs.Clash.{awayOf, Follows, Spread, NoneMeet, lowSame, fromOf, laneWith, laneFrom, pairsFrom, NonePast};
 
 // ---- the usual case: each lane's access lies behind the one before, or each before it
 
@@ -55,7 +55,7 @@ fn spread(up: bool, w: u32, n: usize, o: &[u32; LANES]) -> bool
 // Each arm calls the loop with its direction as a constant.
 fn apart(w: u32, n: usize, o: &[u32; LANES]) -> bool
     requires { ⌜ (w ≤ 4) × (n ≤ lanesMax) ⌝ }
-    ensures { λ t. ⌜ (t ≡ true → Apart w n (now (o .entry))) ⌝ }
+    ensures { λ t. ⌜ (t ≡ true → NoneMeet w n (now (o .entry))) ⌝ }
 {
     if o[0] < o[1] {
         return spread(true, w, n, o);
@@ -114,7 +114,7 @@ fn lane_agrees(w: u32, mask: u32, l: usize, n: usize, o: &[u32; LANES], x: &[u32
 
 // Each pair of lanes, from both sides.
 fn pairs_agree(w: u32, mask: u32, n: usize, o: &[u32; LANES], x: &[u32; LANES]) -> bool
-    requires { ⌜ (w ≤ 4) × (n ≤ lanesMax) × (mask < 2 ^ n) × Fits w mask n (now o) ⌝ }
+    requires { ⌜ (w ≤ 4) × (n ≤ lanesMax) × (mask < 2 ^ n) × NonePast w mask n (now o) ⌝ }
     ensures { λ t. ⌜ t ≡ pairsFrom w mask n (now (o .entry)) (now (x .entry)) ⌝ }
 {
     let mut l = 0;
@@ -131,7 +131,7 @@ fn pairs_agree(w: u32, mask: u32, n: usize, o: &[u32; LANES], x: &[u32; LANES]) 
 
 // The stores of the lanes of the mask, the words x at the addresses o, agree.
 pub fn all_agree(k: StoreOp, mask: u32, n: usize, o: &[u32; LANES], x: &[u32; LANES]) -> bool
-    requires { ⌜ (n ≤ lanesMax) × (mask < 2 ^ n) × Fits (widthOf k) mask n (now o) ⌝ }
+    requires { ⌜ (n ≤ lanesMax) × (mask < 2 ^ n) × NonePast (widthOf k) mask n (now o) ⌝ }
     ensures { λ t. ⌜ t ≡ allAgree n (bit mask) k (at (now (o .entry))) (at (now (x .entry))) ⌝ }
 {
     let w = memory::width(k) as u32;

@@ -30,12 +30,12 @@ use Rattle.traces.specs.Bound.{launchOn}
 use Rattle.promises.specs.Lanes.{isActive, SameLane, Agree, allBut, withFile, Alike, Touches}
 use Rattle.promises.specs.Lanes as L
 use Rattle.promises.specs.Written.{Becomes, LaneLeft}
-use Rattle.promises.specs.Clashes.{Agreeing, In, inOrder}
+use Rattle.promises.specs.Clashes.{Agreeing, ByLanes, In, inOrder}
 use Rattle.promises.specs.Private.{Reaches}
 use Rattle.promises.specs.Private as P
 use Rattle.promises.proofs.Stores.{active-below}
 use Rattle.promises.proofs.Written.{written, lane-words, one-value, move-shares}
-use Rattle.promises.proofs.Clashes.{clashes, any-order}
+use Rattle.promises.proofs.Clashes.{clashes, clashes-last, only-lanes-clash, any-order}
 use Rattle.promises.proofs.Private.{steps-apart}
 use Rattle.promises.proofs.Lanes.{active-mask, kept, unwritten, all-but, unseen, unfelt, lane-alone}
 
@@ -117,13 +117,13 @@ stays : getD (stepOf storing start .left .bytes .dataBytes) 2 0 ≡ 0
 unfolding start
 stays = unwritten storing start Data .1 2 (lit≤ tt) untouched
 
--- 4 lanes at address 0 of 8 bytes, of which 0 and 2 are active, with the words f in v2
-abbrev all-at-zero : (Lane → ℕ) → State
-all-at-zero f = state (launchedOf (launchOn 4 0b0101)) (writeLanes 4 (λ l. true) (vreg 2) f (replicate fileWords 0)) (alone (replicate 8 0))
+-- 4 lanes at address 0 of n bytes, of which 0 and 2 are active, with the words f in v2
+abbrev all-at-zero : ℕ → (Lane → ℕ) → State
+all-at-zero n f = state (launchedOf (launchOn 4 0b0101)) (writeLanes 4 (λ l. true) (vreg 2) f (replicate fileWords 0)) (alone (replicate n 0))
 
 -- written: lanes 0 and 2 store 12, which lanes 1 and 3, with 13, would not
 unfoldable together : State
-together = all-at-zero (λ l. 12 + l .0 % 2)
+together = all-at-zero 8 (λ l. 12 + l .0 % 2)
 
 accepted : stepOf storing together .code ≡ 0
 unfolding computes together
@@ -155,7 +155,7 @@ in-that-order = any-order storing together Plain S.B (vreg 1) (vreg 2) 0 is-stor
 
 -- clashes: lanes 0 and 2 store 10 and 12
 unfoldable racing : State
-racing = all-at-zero (λ l. 10 + l .0)
+racing = all-at-zero 8 (λ l. 10 + l .0)
 
 clash : stepOf storing racing .code ≡ 15
 unfolding computes racing
@@ -164,6 +164,20 @@ clash = refl
 not-agreeing : Agreeing racing Plain S.B (vreg 1) (vreg 2) 0 → ⊥
 unfolding computes racing
 not-agreeing = clashes storing racing Plain S.B (vreg 1) (vreg 2) 0 refl refl .refused .0 refl
+
+by-lanes : ByLanes (instrAt storing racing)
+by-lanes = only-lanes-clash storing racing clash
+
+-- clashes-last: with no byte of data the same lanes are outside, and that is said first
+unfoldable nowhere : State
+nowhere = all-at-zero 0 (λ l. 10 + l .0)
+
+outside-first : stepOf storing nowhere .code ≡ 9
+unfolding computes nowhere
+outside-first =
+    clashes-last storing nowhere Plain S.B (vreg 1) (vreg 2) 0 refl (λ z.
+    let y : 9 ≡ 0 = z in
+    omega arith)
 
 -- the same in a local memory at address 0, the data memory having no bytes; were both there, they would overlap
 near : List ℕ → State

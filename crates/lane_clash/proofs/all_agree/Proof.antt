@@ -1,7 +1,7 @@
 use mathlib.Core.Path.{ap, subst, _∙_}
 use Prim.Native.Nat.{ℕ}
 use borrow.Author.Needs.{needs}
-use Rattle.lane_clash.specs.Clash.{Apart, pairsFrom}
+use Rattle.lane_clash.specs.Clash.{NoneMeet, pairsFrom}
 use Rattle.lane_clash.proofs.Laws.{pairs-agree, apart-agree}
 use Rattle.lane_clash.proofs.all_agree.Statement.{statement}
 use Rattle.lane_clash.proofs.all_agree.Tie as tie
@@ -11,7 +11,7 @@ returns c =
     let p = c .before in
     let w = p .before in
     let a = w .before .args in
-    apart-agree (a .k) (a .mask) (a .n) (a .o .now) (a .x .now) (subst (λ (v : ℕ). Apart v (a .n) (a .o .now)) (w .width .ensures .0) (p .apart .ensures (c .if1 .taken)))
+    apart-agree (a .k) (a .mask) (a .n) (a .o .now) (a .x .now) (subst (λ (v : ℕ). NoneMeet v (a .n) (a .o .now)) (w .width .ensures .0) (p .apart .ensures (c .if1 .taken)))
 
 pairs-agree-requires : tie.Need-pairs-agree-requires
 pairs-agree-requires c κs =
