@@ -142,8 +142,12 @@ def ventus_table():
     return rows
 
 
+# of a vector word that is not masked
+VM = 1 << 25
+
+
 def vector_word(funct6, funct3):
-    return funct6 << 26 | 1 << 25 | funct3 << 12 | 0x57
+    return funct6 << 26 | VM | funct3 << 12 | 0x57
 
 
 def vector_table():
@@ -161,11 +165,17 @@ def vector_table():
     return rows
 
 
-VENTUS, VECTOR = ventus_table(), vector_table()
-# what only programs for QEMU have; a name that is no field stands for itself
-QEMU_ONLY = {'ecall': (0x73, ''), 'vsetvli': (0x0D007057, 'xd x1 e32 m1 ta ma'), 'vle32.v': (0x02006007, 'vd x1'), 'vse32.v': (0x02006027, 'vd x1'),
-             'vmerge.vim': (0x5C003057, 'vd v2 signed v0'), 'vrgather.vi': (0x32003057, 'vd v2 unsigned')}
-TABLE = scalar_table() | VECTOR | VENTUS | QEMU_ONLY
+def merge_table():
+    forms = (FORMS[letter] for letter in 'vxi')
+    return {'vmerge.v%sm' % form[0]: (vector_word(0b010111, form[1]) & ~VM, 'vd v2 %s v0' % form[3]) for form in forms}
+
+
+# a name that is no field stands for itself
+VENTUS, VECTOR, MERGES = ventus_table(), vector_table(), merge_table()
+# what only programs for QEMU have; lanes that are not written keep their words (tu, mu)
+QEMU_ONLY = {'ecall': (0x73, ''), 'vsetvli': (0x01007057, 'xd x1 e32 m1 tu mu'), 'vle32.v': (0x02006007, 'vd x1'), 'vse32.v': (0x02006027, 'vd x1'),
+             'vrgather.vi': (0x32003057, 'vd v2 unsigned')}
+TABLE = scalar_table() | VECTOR | MERGES | VENTUS | QEMU_ONLY
 
 
 def parse(text, target_base=0):
@@ -178,6 +188,9 @@ def parse(text, target_base=0):
 def word(text):
     name, *operands = parse(text)
     bits, fields = TABLE[name]
+    if operands[-1:] == ['v0.t']:           # masked
+        bits ^= bits & VM
+        operands.pop()
     fields = fields.split()
     assert len(fields) == len(operands), text
     for field, operand in zip(fields, operands):

@@ -116,6 +116,25 @@ RACE = one_word('vadd.vv v3,v3,v1') + END
 # all lanes store one sum
 AGREE = one_word('vadd.vi v3,v3,5') + counting(7, 7)
 
+# lanes 2 and 3 alone are written by the masked add; the merge writes all four
+MASKED = kernel(
+    'vid.v v1', 'vsll.vi v2,v1,2',
+    'lui x5,0x%x' % (DATA >> 12), 'vadd.vx v2,v2,x5',   # v2: the address of word l
+    'vmsgtu.vi v0,v1,1',                    # v0: 0, 0, 1, 1
+    'vadd.vi v3,v1,10,v0.t',                # v3: 0, 0, 12, 13, where it was 0
+    'vmerge.vim v4,v1,-1,v0',               # v4: 0, 1, -1, -1
+    'vsw12 v3,0(v2)', 'vsw12 v4,16(v2)',
+    'addi x6,x5,32',                        # then eight words must be those that stand behind them
+    'lw x7,0(x5)', 'lw x8,32(x5)',
+    'bne x7,x8,16',                         # another word: to the word after ENDPRG
+    'addi x5,x5,4',
+    'bne x5,x6,-16',                        # the next word
+    'endprg') + bytes(4)
+MASKED_WORDS = packed([0, 0, 12, 13, 0, 1, 0xFFFFFFFF, 0xFFFFFFFF], '<')
+
+# a masked add into v0, which only a compare may write
+MASKED_V0 = kernel('vid.v v1', 'vmsgtu.vi v0,v1,1', 'vadd.vi v0,v1,10,v0.t', 'endprg')
+
 # the CSRs that a group's kernels read
 TID, WID, LDS = 'csrrs x5,0x800,x0', 'csrrs x5,0x805,x0', 'csrrs x6,0x806,x0'
 
@@ -199,6 +218,8 @@ EXAMPLES = {
     'x64': (card(), X64, None),
     'race': (card(), RACE, packed([2], '<')),
     'agree': (card(), AGREE, packed([2], '<')),
+    'masked': (card(), MASKED, bytes(32) + MASKED_WORDS),
+    'masked_v0': (card(), MASKED_V0, None),
 }
 
 # the folder of the sheets that ./mark marks

@@ -53,6 +53,7 @@ pub fn subjects() -> Vec<Subject> {
         run("prefixed", counted_loop(t, vec![t.fixed("vid.v") | rd(1)], prefixed(t), 8_000)),
         run("scattered", counted_loop(t, scattered_addresses(t), store_and_add(t, 1), 12_000)),
         run("one word", counted_loop(t, one_address(t), store_and_add(t, 6), 12_000)),
+        run("masked", counted_loop(t, vec![t.fixed("vid.v") | rd(1)], masked(t), 8_000)),
     ]
 }
 
@@ -112,6 +113,26 @@ fn prefixed(t: &Table) -> Vec<u32> {
         regext(0, 1, 0),
         t.fixed("srai") | rd(6) | rs1(31) | rs2(3), // x6 = x63 >> 3
         op("vsub.vv", 3, 2, 3),
+    ]
+}
+
+/// Lane operations under v0, which is new in every turn and differs from lane to lane; v1 holds the
+/// lane numbers.
+fn masked(t: &Table) -> Vec<u32> {
+    let op = |name: &str, vd: u32, vs2: u32, source: u32| {
+        t.fixed(name) | rd(vd) | rs2(vs2) | rs1(source)
+    };
+    vec![
+        op("vmul.vx", 2, 1, 5),
+        op("vand.vi", 3, 2, 4),
+        op("vmsne.vi", 0, 3, 0), // lane · x5 has bit 2
+        op("masked vadd.vv", 4, 4, 2),
+        op("masked vxor.vx", 5, 4, 5),
+        op("masked vsll.vi", 6, 5, 3),
+        op("masked vmaxu.vv", 7, 6, 4),
+        op("masked vmulh.vv", 8, 7, 6),
+        op("masked vmslt.vv", 0, 8, 4),
+        op("vmerge.vvm", 9, 8, 7),
     ]
 }
 

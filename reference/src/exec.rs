@@ -2,7 +2,7 @@
 
 use crate::isa::{
     decode, decode_after, AluOp, Cond, CsrOp, CsrSrc, Insn, LoadKind, Prefix, Space, StoreKind,
-    VOp, VSrc, V, VECTORS, X,
+    VOp, VSrc, V, V0, VECTORS, X,
 };
 use crate::memory::{load_size, store_size, Memory};
 use crate::state::{Fixed, Split, Warp, LANES};
@@ -91,18 +91,20 @@ fn execute<M: Memory + ?Sized>(
         Insn::Barrier => wait(w)?,
         Insn::RegExt(bits) => w.prefix = Prefix::RegExt(bits),
         Insn::RegExtI(bits) => w.prefix = Prefix::RegExtI(bits),
-        Insn::Vec { op, vd, vs2, src } => {
+        Insn::Vec { masked, op, vd, vs2, src } => {
             // In place: as a function of its own it makes such a step slower by a quarter.
             let src = match src {
                 VSrc::V(vs1) => *lanes_of(v, vs1),
                 VSrc::X(rs1) => [get(w, rs1); LANES],
                 VSrc::I(imm) => [imm; LANES],
             };
-            vector(op, w.mask, v, vd, vs2, &src);
+            vector(op, written(masked, w.mask, v), v, vd, vs2, &src);
         }
         Insn::VmvSX { vd, rs1 } => fill(w.mask, lanes_mut(v, vd), get(w, rs1)),
         Insn::VmvXS { rd, vs2 } => set(w, rd, uniform(w.mask, lanes_of(v, vs2))?),
-        Insn::Vid { vd } => lanes(w.mask, lanes_mut(v, vd), |lane| lane as u32),
+        Insn::Vid { masked, vd } => {
+            lanes(written(masked, w.mask, v), lanes_mut(v, vd), |lane| lane as u32);
+        }
         Insn::Vload { space, kind, vd, vs1, off } => {
             let at = places(w, memory, lanes_of(v, vs1), space, off, load_size(kind))?;
             load_lanes(w.mask, lanes_mut(v, vd), memory, kind, &at);
@@ -402,7 +404,24 @@ fn lanes_mut(v: &mut VectorFile, r: V) -> &mut [u32; LANES] {
     (&mut v[r.index() * LANES..][..LANES]).try_into().expect("a register is 32 words")
 }
 
-/// Write the active lanes of one register; `f` is cheap, so it is done for all
+/// The lanes that a word writes: the active ones, or if it is masked those of them whose v0 word
+/// has bit 0 set.
+#[inline]
+fn written(masked: bool, active: u32, v: &VectorFile) -> u32 {
+    if masked {
+        active & set_in_v0(v)
+    } else {
+        active
+    }
+}
+
+#[inline]
+fn set_in_v0(v: &VectorFile) -> u32 {
+    let v0 = lanes_of(v, V0);
+    (0..LANES).fold(0, |set, lane| set | (v0[lane] & 1) << lane)
+}
+
+/// Write some lanes of one register; `f` is cheap, so it is done for all
 /// lanes and blended.
 #[inline]
 fn lanes(mask: u32, d: &mut [u32; LANES], f: impl Fn(usize) -> u32) {
@@ -443,6 +462,10 @@ fn vector(op: VOp, mask: u32, v: &mut VectorFile, vd: V, vs2: V, b: &[u32; LANES
         VOp::Sgtu => lanes(mask, d, |l| (a[l] > b[l]).into()),
         VOp::Sgt => lanes(mask, d, |l| ((a[l] as i32) > (b[l] as i32)).into()),
         VOp::Mv => lanes(mask, d, |l| b[l]),
+        VOp::Merge => {
+            let set = set_in_v0(v);
+            lanes(mask, lanes_mut(v, vd), |l| if set & BIT[l] != 0 { b[l] } else { a[l] });
+        }
         VOp::Mulhu => lanes(mask, d, |l| mulhu(a[l], b[l])),
         VOp::Mul => lanes(mask, d, |l| a[l].wrapping_mul(b[l])),
         VOp::Mulhsu => lanes(mask, d, |l| mulhsu(a[l], b[l])),

@@ -4,13 +4,14 @@
 
 use crate::case::{evaluate, launch_words, Case, Data, Job, Kernel, Shown, Vector};
 use crate::exec::address;
+use crate::generate_masked::{any_masked, masked_words, new_v0};
 use crate::generate_prefixes::{csrs_behind_a_prefix, digits, prefixes, random_prefix};
 use crate::generate_stores::shared_bytes;
 use crate::isa::{Space, ENDPRG, JOIN, SCALARS};
 use crate::state::{Fixed, Launch, Split, Warp};
 use crate::table::{
     enc_b, enc_i, enc_j, enc_s, rd, regext, regexti, rs1, rs2, Shape, Table, Variant, BARRIER, NOP,
-    RD, RS1, RS2,
+    RD, RS1, RS2, VM,
 };
 use crate::{card, run, saved};
 
@@ -437,6 +438,7 @@ pub fn all_cases(round: u32) -> Vec<Case> {
     controls(round, &mut out);
     csrs(&table, &mut out);
     prefixes(round, &table, &mut out);
+    masked_words(round, &table, &mut out);
     near_words(round, &table, &mut out);
     data_ends(round, &table, &mut out);
     privates(round, &table, &mut out);
@@ -659,6 +661,7 @@ impl<'a> Soup<'a> {
             let at = kernel.len() as u32;
             let p = Place { at, words, forward: rng.chance(2), wild: true };
             let v = match rng.below(20) {
+                0..=4 if rng.chance(3) => any_masked(rng, self.t),
                 0..=4 => rng.pick(&self.vector),
                 5..=7 => rng.pick(&self.memory),
                 8..=10 => rng.pick(&self.vbranch),
@@ -806,16 +809,20 @@ impl<'a> Builder<'a> {
         }
     }
 
-    /// Over v1 to v15, into v4 to v15.
+    /// Over v1 to v15, into v4 to v15; masked in one of three, then often under another mask.
     fn lane_operation(&mut self, rng: &mut Rng) {
-        let v = rng.pick(&self.vector);
+        let masked = rng.chance(3);
+        if masked && !rng.chance(3) {
+            self.words.push(new_v0(rng, self.t));
+        }
+        let v = if masked { any_masked(rng, self.t) } else { rng.pick(&self.vector) };
         self.prefix(rng, v, 4);
         let any = v.fixed | rng.word() & v.free;
         let mut word = any & !RD | rd(4 + rng.below(12));
         if v.free & RS2 != 0 {
             word = word & !RS2 | rs2(1 + rng.below(15));
         }
-        if v.free & RS1 != 0 && v.name.ends_with("vv") {
+        if v.free & RS1 != 0 && v.form() == "vv" {
             word = word & !RS1 | rs1(1 + rng.below(15));
         }
         self.words.push(word);
@@ -1112,16 +1119,16 @@ const FOREIGN_WORDS: [u32; 31] = [
 ];
 
 /// Words next to legal ones: each fixed bit above the opcode turned over, and
-/// one of the opcode's; vector words that are masked or of another funct3.
+/// one of the opcode's; vector words with vm = 0 or of another funct3.
 fn beside_legal(rng: &mut Rng, t: &Table) -> Vec<u32> {
     let mut words = Vec::new();
-    for v in &t.all {
+    for v in t.with(|_| true) {
         let opcode_bit = rng.below(7);
         for bit in (7..32).chain([opcode_bit]).filter(|bit| v.free >> bit & 1 == 0) {
             words.push((v.fixed | rng.word() & v.free) ^ 1 << bit);
         }
         if v.fixed & 0x7f == 0x57 {
-            words.push((v.fixed | rng.word() & v.free) & !(1 << 25)); // vm = 0
+            words.push((v.fixed | rng.word() & v.free) & !VM);
             let funct3 = rng.below(8) << 12;
             words.push((v.fixed | rng.word() & v.free) & !0x7000 | funct3);
         }

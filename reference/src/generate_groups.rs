@@ -7,6 +7,7 @@ use crate::generate::{
     access, break_state, card_of, extended_state, ground, is_private, kernel_pc, low_mask,
     raw_card, size_of, some_lanes, spoil, touches_memory, Ground, Rng, Soup, CLAUSES, VECTOR,
 };
+use crate::generate_masked::masked_kernel;
 use crate::generate_stores::{
     is_lane_store, lane_count, lanes_of, private_u, span, spoil_one, store_words, stored,
     table_bytes, Stored, TABLES,
@@ -36,6 +37,7 @@ pub fn group_cases(round: u32) -> Vec<Case> {
     arrivals(round, &mut out);
     edges(round, t, &mut out);
     shared_bytes(round, t, &mut out);
+    masked_words(round, t, &mut out);
     stops(round, t, &mut out);
     damaged(round, &mut out);
     ended(round, &mut out);
@@ -263,6 +265,20 @@ fn soups(round: u32, t: &Table, out: &mut Vec<Case>) {
         let budget = rng.pick(&[0, 1, 5, 20, 60, 100, 200]);
         let handed = g.handed(state, Kernel::plain(kernel));
         out.push(handed_case(rng, handed, budget));
+    }
+}
+
+/// Masked words, from any well-formed group.
+fn masked_words(round: u32, t: &Table, out: &mut Vec<Case>) {
+    let mut rng = Rng::of_family(round, 51);
+    let rng = &mut rng;
+    for _ in 0..40 {
+        let kernel = masked_kernel(rng, t);
+        let words = kernel.len() as u32;
+        let g = group_ground(rng, words);
+        let state = g.random_group(rng, words).to_words();
+        let handed = g.handed(state, Kernel::plain(kernel));
+        out.push(handed_case(rng, handed, 4 * words));
     }
 }
 

@@ -4,6 +4,7 @@
 
 use crate::case::{Case, Job};
 use crate::generate::{access, all_cases, plain_job, Rng};
+use crate::generate_masked::masked_kernels;
 use crate::generate_prefixes::prefixed_kernels;
 use crate::isa::{ENDPRG, JOIN};
 use crate::sheet::{run_steps, sheet_of, SHEET_BYTES, STEPS, STEP_BYTES};
@@ -111,7 +112,8 @@ fn own_jobs() -> Vec<Job> {
     jobs.extend(["vsb12", "vsh12", "vsw12"].map(|name| store_to_one_place(t, name, 1)));
     jobs.push(store_to_one_place(t, "vsw12", 2));
     jobs.extend(first_refused.map(|word| plain_job(4, vec![word, ENDPRG])));
-    jobs.extend(prefixed_kernels(t).into_iter().map(|kernel| plain_job(4, kernel)));
+    let kernels = [prefixed_kernels(t), masked_kernels(t)].concat();
+    jobs.extend(kernels.into_iter().map(|kernel| plain_job(4, kernel)));
     jobs
 }
 

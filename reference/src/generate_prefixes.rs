@@ -20,7 +20,7 @@ pub(crate) fn digits(rng: &mut Rng, v: &Variant) -> [u32; 3] {
 }
 
 /// The digit x3, which goes on no field.
-fn third(rng: &mut Rng) -> u32 {
+pub(crate) fn third(rng: &mut Rng) -> u32 {
     rng.below(8) << 29
 }
 
@@ -79,8 +79,8 @@ pub(crate) fn prefixes(round: u32, t: &Table, out: &mut Vec<Case>) {
 /// Each variant behind REGEXT, a few times over; the first prefix is pending or in the kernel.
 fn behind_regext(rng: &mut Rng, t: &Table, out: &mut Vec<Case>) {
     for v in t.with(Variant::takes_regext) {
-        // A store by lanes or a private access takes four words, and is refused more often.
-        let four = is_private(v) || v.shape == Shape::Vstore;
+        // These take four words, and are refused more often.
+        let four = is_private(v) || matches!(v.shape, Shape::Vstore | Shape::VmvXS);
         let (cases, words) = if four { (8, 16) } else { (4, 8) };
         for n in 0..cases {
             let mut kernel = Vec::new();

@@ -29,6 +29,9 @@ impl V {
     }
 }
 
+/// The register that masks, whatever prefix is pending.
+pub const V0: V = V::new(0);
+
 /// A prefix that was taken and waits for its word, with its 12 bits.
 #[derive(Clone, Copy, Debug, Default, PartialEq, Eq)]
 pub enum Prefix {
@@ -124,6 +127,8 @@ pub enum VOp {
     Sgtu,
     Sgt,
     Mv,
+    /// Takes the second operand in lanes whose v0 word has bit 0 set, vs2's word in the others.
+    Merge,
     Mulhu,
     Mul,
     Mulhsu,
@@ -132,6 +137,23 @@ pub enum VOp {
     Div,
     Remu,
     Rem,
+}
+
+impl VOp {
+    /// Whether it writes 1 or 0.
+    pub fn is_compare(self) -> bool {
+        matches!(
+            self,
+            VOp::Seq
+                | VOp::Sne
+                | VOp::Sltu
+                | VOp::Slt
+                | VOp::Sleu
+                | VOp::Sle
+                | VOp::Sgtu
+                | VOp::Sgt
+        )
+    }
 }
 
 /// The second operand of a vector operation.
@@ -235,7 +257,10 @@ pub enum Insn {
     /// The two prefixes, with their 12 bits.
     RegExt(u32),
     RegExtI(u32),
+    /// Masked, it writes only active lanes whose v0 word has bit 0 set; a merge, though its word
+    /// has vm = 0, writes every active lane.
     Vec {
+        masked: bool,
         op: VOp,
         vd: V,
         vs2: V,
@@ -251,6 +276,7 @@ pub enum Insn {
         vs2: V,
     },
     Vid {
+        masked: bool,
         vd: V,
     },
     Vload {
@@ -583,13 +609,26 @@ fn ventus_control(w: u32) -> Option<Insn> {
 
 #[inline(always)]
 fn vector(a: Above, w: u32) -> Option<Insn> {
-    if field(w, 25, 25) == 0 {
-        return None; // vm = 0
-    }
-    match funct3(w) {
-        0b000 | 0b011 | 0b100 => vector_integer(a, w),
-        0b010 | 0b110 => vector_m(a, w),
-        _ => None,
+    let insn = match funct3(w) {
+        0b000 | 0b011 | 0b100 => vector_integer(a, w)?,
+        0b010 | 0b110 => vector_m(a, w)?,
+        _ => return None,
+    };
+    (!has_mask(w) || may_have_mask(&insn)).then_some(insn)
+}
+
+/// vm = 0.
+const fn has_mask(w: u32) -> bool {
+    field(w, 25, 25) == 0
+}
+
+/// No word with vm = 0 moves to or from a scalar register, and only a compare writes v0.
+#[inline(always)]
+fn may_have_mask(insn: &Insn) -> bool {
+    match *insn {
+        Insn::Vec { op, vd, .. } => vd != V0 || op.is_compare(),
+        Insn::Vid { vd, .. } => vd != V0,
+        _ => false,
     }
 }
 
@@ -607,6 +646,7 @@ fn vector_integer(a: Above, w: u32) -> Option<Insn> {
         0b001001 => (VOp::And, true, true, true),
         0b001010 => (VOp::Or, true, true, true),
         0b001011 => (VOp::Xor, true, true, true),
+        0b010111 if has_mask(w) => (VOp::Merge, true, true, true),
         0b010111 if rs2(w) == 0 => (VOp::Mv, true, true, true),
         0b011000 => (VOp::Seq, true, true, true),
         0b011001 => (VOp::Sne, true, true, true),
@@ -631,8 +671,8 @@ fn vector_integer(a: Above, w: u32) -> Option<Insn> {
         _ => return None,
     };
     // Of a move, vs2 is no register: it reads none.
-    let vs2 = if op == VOp::Mv { V::new(0) } else { a.v2(w) };
-    Some(Insn::Vec { op, vd: a.vd(w), vs2, src })
+    let vs2 = if op == VOp::Mv { V0 } else { a.v2(w) };
+    Some(Insn::Vec { masked: has_mask(w) && op != VOp::Merge, op, vd: a.vd(w), vs2, src })
 }
 
 #[inline(always)]
@@ -650,12 +690,12 @@ fn vector_m(a: Above, w: u32) -> Option<Insn> {
         0b010000 if vv && rs1(w) == 0 => return Some(Insn::VmvXS { rd: a.xd(w)?, vs2: a.v2(w) }),
         0b010000 if !vv && rs2(w) == 0 => return Some(Insn::VmvSX { vd: a.vd(w), rs1: a.x1(w)? }),
         0b010100 if vv && rs2(w) == 0 && rs1(w) == 0b10001 => {
-            return Some(Insn::Vid { vd: a.vd(w) })
+            return Some(Insn::Vid { masked: has_mask(w), vd: a.vd(w) })
         }
         _ => return None,
     };
     let src = if vv { VSrc::V(a.v1(w)) } else { VSrc::X(a.x1(w)?) };
-    Some(Insn::Vec { op, vd: a.vd(w), vs2: a.v2(w), src })
+    Some(Insn::Vec { masked: has_mask(w), op, vd: a.vd(w), vs2: a.v2(w), src })
 }
 
 #[inline(always)]

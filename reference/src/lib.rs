@@ -9,6 +9,7 @@ pub mod exec;
 pub mod generate;
 pub mod generate_groups;
 pub mod generate_marks;
+mod generate_masked;
 mod generate_prefixes;
 mod generate_stores;
 pub mod group;

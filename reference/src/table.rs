@@ -59,7 +59,13 @@ pub const F7: u32 = 0x7f << 25;
 const R: u32 = RD | RS1 | RS2;
 const I: u32 = R | F7;
 
+/// A vector word that is not masked has it.
+pub const VM: u32 = 1 << 25;
+
 const BIT_31: u32 = 1 << 31;
+
+/// Before the name of a masked word.
+pub const MASKED: &str = "masked ";
 
 impl Variant {
     fn new(name: impl Into<String>, fixed: u32, free: u32, shape: Shape) -> Variant {
@@ -78,9 +84,40 @@ impl Variant {
         self.shape == Shape::Branch && self.opcode() == 0x5b
     }
 
+    /// Whether its words have vm = 0.
+    pub fn is_masked(&self) -> bool {
+        self.opcode() == 0x57 && self.fixed & VM == 0
+    }
+
+    /// Whether it is a vector word that writes 1 or 0 to a lane.
+    pub fn is_compare(&self) -> bool {
+        self.opcode() == 0x57 && self.base_name().starts_with("vms")
+    }
+
+    /// Whether a word of it whose destination is v0 is refused.
+    pub fn spares_v0(&self) -> bool {
+        self.is_masked() && !self.is_compare()
+    }
+
+    /// Whether a word, alone, is one of its own.
+    pub fn has(&self, word: u32) -> bool {
+        word & !self.free == self.fixed && !(self.spares_v0() && word & RD == 0)
+    }
+
+    /// The name of a masked word without its mask.
+    fn base_name(&self) -> &str {
+        self.name.trim_start_matches(MASKED)
+    }
+
+    /// The end of the name, which of a lane operation and of a merge is vv, vx or vi.
+    pub fn form(&self) -> &str {
+        let end = self.name.rsplit('.').next().unwrap_or_default();
+        end.trim_end_matches('m')
+    }
+
     /// Whether it has an immediate that REGEXTI lengthens.
     pub fn is_vi(&self) -> bool {
-        self.opcode() == 0x57 && self.name.ends_with(".vi")
+        self.opcode() == 0x57 && self.form() == "vi"
     }
 
     /// Whether REGEXT may stand before it.
@@ -93,7 +130,7 @@ impl Variant {
     pub fn registers(&self) -> [Option<File>; 3] {
         const X: Option<File> = Some(File::X);
         const V: Option<File> = Some(File::V);
-        match (self.opcode(), self.name.as_str()) {
+        match (self.opcode(), self.base_name()) {
             (0x37 | 0x17 | 0x6f, _) | (0x73, "csrrwi" | "csrrsi" | "csrrci") => [X, None, None],
             (0x67 | 0x03 | 0x13 | 0x73, _) | (_, "setrpc") => [X, X, None],
             (0x63 | 0x23, _) => [None, X, X],
@@ -104,8 +141,8 @@ impl Variant {
             (_, "vmv.s.x" | "vmv.vx") => [V, X, None],
             (_, "vid.v" | "vmv.vi") => [V, None, None],
             (_, "vmv.vv") => [V, V, None],
-            (0x57, name) if name.ends_with(".vv") => [V, V, V],
-            (0x57, name) if name.ends_with(".vx") => [V, X, V],
+            (0x57, _) if self.form() == "vv" => [V, V, V],
+            (0x57, _) if self.form() == "vx" => [V, X, V],
             (0x57, _) => [V, None, V],
             (0x5b, _) if self.is_vbranch() => [None, V, V],
             _ => [None; 3],
@@ -134,6 +171,7 @@ pub fn variants() -> Vec<Variant> {
         lane_moves(),
         lane_products(),
         lane_others(),
+        masked(),
     ]
     .concat()
 }
@@ -224,7 +262,7 @@ const MVX: u32 = 6;
 
 /// A vector word that is not masked.
 const fn v(funct6: u32, form: u32) -> u32 {
-    0x57 | funct6 << 26 | 1 << 25 | f3(form)
+    0x57 | funct6 << 26 | VM | f3(form)
 }
 
 fn lane_integers() -> Vec<Variant> {
@@ -283,6 +321,20 @@ fn lane_others() -> Vec<Variant> {
     ]
 }
 
+/// The words with vm = 0: those that can be masked, and vmerge where vmv.v would be.
+fn masked() -> Vec<Variant> {
+    let vid = lane_others().into_iter().filter(|v| v.name == "vid.v");
+    let operations = [lane_integers(), lane_products()].concat();
+    let masked = operations.into_iter().chain(vid).map(|v| Variant {
+        name: format!("{MASKED}{}", v.name),
+        fixed: v.fixed & !VM,
+        ..v
+    });
+    let forms = [("vmerge.vvm", VV), ("vmerge.vxm", VX), ("vmerge.vim", VI)];
+    let merges = forms.iter().map(|(name, form)| Variant::plain(*name, v(0x17, *form) & !VM, R));
+    masked.chain(merges).collect()
+}
+
 // The fields of a word.
 
 pub fn enc_i(imm: i32) -> u32 {
@@ -334,9 +386,13 @@ impl Table {
     pub fn fixed(&self, name: &str) -> u32 {
         self.get(name).fixed
     }
-    /// Those that are to be kept, in the tables' order.
+    /// Those that are not masked and are to be kept, in the tables' order.
     pub fn with(&self, keep: impl Fn(&Variant) -> bool) -> Vec<&Variant> {
-        self.all.iter().filter(|v| keep(v)).collect()
+        self.all.iter().filter(|v| !v.is_masked() && keep(v)).collect()
+    }
+    /// Those that are masked, in the tables' order.
+    pub fn masked(&self) -> Vec<&Variant> {
+        self.all.iter().filter(|v| v.is_masked()).collect()
     }
 }
 
@@ -362,10 +418,13 @@ pub fn name(insn: &Insn) -> String {
         Insn::Barrier => "barrier".into(),
         Insn::RegExt(_) => "regext".into(),
         Insn::RegExtI(_) => "regexti".into(),
-        Insn::Vec { op, src, .. } => format!("{}.{}", vop_name(*op), form_name(*src)),
+        Insn::Vec { op: VOp::Merge, src, .. } => format!("vmerge.{}m", form_name(*src)),
+        Insn::Vec { masked, op, src, .. } => {
+            format!("{}{}.{}", mask_name(*masked), vop_name(*op), form_name(*src))
+        }
         Insn::VmvSX { .. } => "vmv.s.x".into(),
         Insn::VmvXS { .. } => "vmv.x.s".into(),
-        Insn::Vid { .. } => "vid.v".into(),
+        Insn::Vid { masked, .. } => format!("{}vid.v", mask_name(*masked)),
         Insn::Vload { space, kind, .. } => format!("vl{}{}", load_name(*kind), space_name(*space)),
         Insn::Vstore { space, kind, .. } => {
             format!("vs{}{}", store_name(*kind), space_name(*space))
@@ -381,6 +440,14 @@ fn csr_name(op: CsrOp, src: CsrSrc) -> String {
     };
     let form = if matches!(src, CsrSrc::I(_)) { "i" } else { "" };
     format!("csrr{op}{form}")
+}
+
+fn mask_name(masked: bool) -> &'static str {
+    if masked {
+        MASKED
+    } else {
+        ""
+    }
 }
 
 fn form_name(src: VSrc) -> &'static str {
@@ -474,6 +541,7 @@ fn vop_name(op: VOp) -> &'static str {
         VOp::Sgtu => "vmsgtu",
         VOp::Sgt => "vmsgt",
         VOp::Mv => "vmv",
+        VOp::Merge => "vmerge",
         VOp::Mulhu => "vmulhu",
         VOp::Mul => "vmul",
         VOp::Mulhsu => "vmulhsu",

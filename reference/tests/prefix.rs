@@ -142,15 +142,18 @@ fn every_word_behind_regext() {
     for v in table::variants() {
         for _ in 0..500 {
             let (word, bits) = (v.fixed | draw() & v.free, draw() & 0xfff);
-            let alone = decode(word).expect("a word of the tables");
+            let alone = decode(word);
+            assert_eq!(alone.is_some(), v.has(word), "{} alone", v.name);
             let fields = [word >> 7 & 31, word >> 15 & 31, word >> 20 & 31];
             let digits = [bits & 7, bits >> 3 & 7, bits >> 6 & 7];
             let mut too_high = false;
             for ((file, field), digit) in v.registers().into_iter().zip(fields).zip(digits) {
                 too_high |= file == Some(File::X) && 32 * digit + field > 63;
             }
+            let into_v0 = v.spares_v0() && 32 * digits[0] + fields[0] == 0;
+            let taken = v.takes_regext() && !too_high && !into_v0;
             let behind = decode_after(Prefix::RegExt(bits), word);
-            assert_eq!(behind.is_some(), v.takes_regext() && !too_high, "{} {bits:03x}", v.name);
+            assert_eq!(behind.is_some(), taken, "{} {bits:03x}", v.name);
             if let Some(insn) = behind {
                 let on = registers(&v, &insn);
                 for (n, number) in on.into_iter().enumerate() {
@@ -159,11 +162,11 @@ fn every_word_behind_regext() {
                 }
             }
             if v.registers() == [None; 3] && v.takes_regext() {
-                assert_eq!(behind, Some(alone));
+                assert_eq!(behind, alone);
             }
             let behind_i = decode_after(Prefix::RegExtI(bits), word);
-            assert_eq!(behind_i.is_some(), v.is_vi(), "{}", v.name);
-            assert_eq!(decode_after(Prefix::None, word), Some(alone));
+            assert_eq!(behind_i.is_some(), v.is_vi() && !into_v0, "{}", v.name);
+            assert_eq!(decode_after(Prefix::None, word), alone);
         }
     }
 }
@@ -182,7 +185,7 @@ fn registers(v: &Variant, insn: &Insn) -> [Option<u32>; 3] {
         Insn::Alu { rd, rs1, rs2, .. } => [x(rd), x(rs1), x(rs2)],
         Insn::Csr { rd, src: CsrSrc::X(rs1), .. } => [x(rd), x(rs1), None],
         Insn::Csr { rd, .. } => [x(rd), None, None],
-        Insn::Vec { op, vd, vs2, src } => {
+        Insn::Vec { op, vd, vs2, src, .. } => {
             let source = match src {
                 VSrc::V(vs1) => y(vs1),
                 VSrc::X(rs1) => x(rs1),
@@ -192,7 +195,7 @@ fn registers(v: &Variant, insn: &Insn) -> [Option<u32>; 3] {
         }
         Insn::VmvSX { vd, rs1 } => [y(vd), x(rs1), None],
         Insn::VmvXS { rd, vs2 } => [x(rd), None, y(vs2)],
-        Insn::Vid { vd } => [y(vd), None, None],
+        Insn::Vid { vd, .. } => [y(vd), None, None],
         Insn::Vload { vd, vs1, .. } => [y(vd), y(vs1), None],
         Insn::Vstore { vs1, vs2, .. } => [None, y(vs1), y(vs2)],
         Insn::Fence => [None; 3],
@@ -380,7 +383,7 @@ fn words_that_take_no_prefix() {
 #[test]
 fn regexti_is_for_vi_forms() {
     for variant in table::variants() {
-        let mut bench = two(ext_i(1, 0, 0), variant.fixed);
+        let mut bench = two(ext_i(1, 0, 0), variant.fixed | 1 << 7 & variant.free);
         if variant.is_vi() {
             both_taken(&mut bench);
         } else {
@@ -389,8 +392,10 @@ fn regexti_is_for_vi_forms() {
     }
     let mut found: Vec<String> =
         table::variants().iter().filter(|v| v.is_vi()).map(|v| v.name.clone()).collect();
-    let forms = "vadd vrsub vand vor vxor vsll vsrl vsra vmseq vmsne vmsleu vmsle vmsgtu vmsgt vmv";
-    let mut forms: Vec<String> = forms.split(' ').map(|form| format!("{form}.vi")).collect();
+    let forms = "vadd vrsub vand vor vxor vsll vsrl vsra vmseq vmsne vmsleu vmsle vmsgtu vmsgt";
+    let both = |form: &str| [format!("{form}.vi"), format!("masked {form}.vi")];
+    let mut forms: Vec<String> = forms.split(' ').flat_map(both).collect();
+    forms.extend(["vmv.vi", "vmerge.vim"].map(String::from));
     found.sort();
     forms.sort();
     assert_eq!(found, forms);
@@ -451,7 +456,8 @@ fn shifts_use_the_low_five_bits() {
             assert_eq!(bench.v(1, 1), result, "{name} {six} {five}");
         }
     }
-    let shift = Insn::Vec { op: VOp::Sll, vd: V::new(1), vs2: V::new(2), src: VSrc::I(31) };
+    let (vd, vs2, src) = (V::new(1), V::new(2), VSrc::I(31));
+    let shift = Insn::Vec { masked: false, op: VOp::Sll, vd, vs2, src };
     assert_eq!(decode_after(Prefix::RegExtI(0xfc0), v("vsll.vi", 1, 2, 31)), Some(shift));
 }
 
@@ -497,7 +503,7 @@ fn a_refused_word_leaves_the_prefix() {
     bench.set_v(97, &[0, 1]);
     second_refused(bench, 14);
     second_refused(two(ext(0, 0, 0, 0), 0), 6);
-    second_refused(two(ext(0, 0, 0, 0), v("vadd.vi", 1, 1, 1) & !(1 << 25)), 6);
+    second_refused(two(ext(0, 0, 0, 0), v("vadd.vi", 0, 1, 1) & !(1 << 25)), 6);
     // No word at all.
     second_refused(Bench::new(1, &[ext(0, 0, 0, 0)], 0), 5);
     // The word is then taken behind the same prefix.

@@ -1,7 +1,7 @@
 -- What a C host is promised of the calls on a state of 241 words.
 use Prim.Native.Nat.{ℕ}
 use mathlib.Core.Path.{_≡_, refl, sym, _∙_, ap, subst}
-use mathlib.Core.Bool.{Bool, true, false, not, cond}
+use mathlib.Core.Bool.{Bool, true, false, not, cond, _||_}
 use mathlib.Core.List.{List, [], _∷_}
 use native.Mathlib.Omega.{arith}
 use lib.Dec.{eqb}
@@ -11,6 +11,7 @@ use Rattle.answer.specs.Rows.{_⇒_, first, oneOf}
 use Rattle.answer.proofs.Rows.{passed, numbered-first}
 use Rattle.isa.specs.declared.Instr.the-variants.{Refused}
 use Rattle.isa.specs.Decode.{decodeOf}
+use Rattle.isa.specs.Masked.{overMask}
 use Rattle.memory.specs.Memories.{alone, bytesAt}
 use Rattle.memory.proofs.Laws.{Same, alone-still}
 use Rattle.warp.specs.declared.Launch.{Launch}
@@ -93,7 +94,7 @@ release-call-answers s = go (eqb (length s) stateWords) (soundIn s) (wellFormedO
 
 pub decode-call-answers : DecodeCallAnswers
 unfolding decodeCallOf
-decode-call-answers w = by-cond (λ (n : ℕ). oneOf (0 ∷ 6 ∷ []) n ≡ true) (eqb (variant (decodeOf w)) (variant Refused)) 6 0 (λ e. refl) (λ e. refl)
+decode-call-answers w = by-cond (λ (n : ℕ). oneOf (0 ∷ 6 ∷ []) n ≡ true) (eqb (variant (decodeOf w)) (variant Refused) || overMask (decodeOf w)) 6 0 (λ e. refl) (λ e. refl)
 
 -- ---- what a refusal leaves
 

@@ -8,6 +8,9 @@ pub extern "C" fn bench_decode(word: u32) -> u32
     ensures { λ r. ⌜ r ≡ decodeCallOf word ⌝ }
 {
     let i = instruction::decode(word);
+    if instruction::over_mask(i) {
+        return answer::UNKNOWN;
+    }
     match i {
         Instr::Refused => answer::UNKNOWN,
         _ => answer::DONE,

@@ -19,7 +19,7 @@ use Rattle.definition.specs.Step.{stepOf}
 use Rattle.definition.specs.Calls.{launchOf, stepsOf, runOf, releaseOf}
 
 unfoldable pub computed-words : Type 0
-unfolding decodeOf Scalar.jalrWord Scalar.branchWord Scalar.loadWord Scalar.storeWord Scalar.shiftWord Scalar.opImmWord Scalar.byFunct3 Scalar.opWord Scalar.fenceWord Scalar.csrWord Vector.plainWord Vector.multiplyWord Vector.operandsWord Vector.vectorWord Ventus.joinWord Ventus.splitsWord Ventus.endPrgWord Ventus.barrierWord Ventus.stopWord Ventus.prefixWord Ventus.warpWord Ventus.laneAccessWord Ventus.privateWord
+unfolding decodeOf Scalar.jalrWord Scalar.branchWord Scalar.loadWord Scalar.storeWord Scalar.shiftWord Scalar.opImmWord Scalar.byFunct3 Scalar.opWord Scalar.fenceWord Scalar.csrWord Vector.plainWord Vector.multiplyWord Vector.vectorWord Ventus.joinWord Ventus.splitsWord Ventus.endPrgWord Ventus.barrierWord Ventus.stopWord Ventus.prefixWord Ventus.warpWord Ventus.laneAccessWord Ventus.privateWord
 computed-words = Unit {0}
 
 unfoldable pub computes : Type 0

@@ -56,9 +56,10 @@ module _ (m : State) where
   lies (I.CsrImm o r i n) h = tt
   lies (I.Vector o a) h = tt
   lies (I.VMove r s) h = tt
+  lies (I.VMerge r b s) h = tt
   lies (I.VMoveXS r b) h = tt
   lies (I.VMoveSX r a) h = tt
-  lies (I.Vid r) h = tt
+  lies (I.Vid t r) h = tt
   lies (I.VBranch c a b n) h = tt
   lies I.Join h = tt
   lies (I.SetRpc r a n) h = tt

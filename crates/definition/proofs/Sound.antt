@@ -116,9 +116,10 @@ module _ (m : State) (f : Formed (m .warp)) (en : m .warp .ended ≡ false) (wa 
   sound (I.CsrImm o r i n) q h = csr W f o n r i i
   sound (I.Vector o a) q h = on W f
   sound (I.VMove r s) q h = on W f
+  sound (I.VMerge r b s) q h = on W f
   sound (I.VMoveXS r b) q h = put W f r _
   sound (I.VMoveSX r a) q h = on W f
-  sound (I.Vid r) q h = on W f
+  sound (I.Vid t r) q h = on W f
   sound (I.VBranch c a b n) q h = vbranch W f en wa _ _ (part-in (W .mask) (fixedOf m .numt) _ (mask-small W f)) h
   sound I.Join q h = record { formed = formed-join W f en wa; moves = joins (unmoved _) }
   sound (I.SetRpc r a n) q h = setrpc W f r a n

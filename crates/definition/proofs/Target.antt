@@ -29,7 +29,7 @@ use Rattle.warp.specs.Warp.{zeroSplit, setX, writeX, next}
 use Rattle.warp.specs.Splits.{openOf, parted, lastSplit, joinOf, setRpcOf}
 use Rattle.warp.proofs.SplitLaws.{by-cond}
 use Rattle.warp.specs.Csr.{isPrint, writesOf, csrAt, csrDone}
-use Rattle.definition.specs.State.{State, fixedOf, active, xOf, memoryOf, scalarAt, laneAt}
+use Rattle.definition.specs.State.{State, fixedOf, active, written, xOf, memoryOf, scalarAt, laneAt}
 use Rattle.definition.specs.Exec.{goes, writes, stores, effect, effectOf}
 
 -- nothing; a scalar register; a split record; a register's words in the lanes that `on` picks; of each lane l below n that `on` picks, `width` bytes at the address `at l` of the memories
@@ -54,11 +54,12 @@ targetOf (I.OpReg o r a b) m = scalar r
 targetOf (I.Fence r a n) m = nothing
 targetOf (I.Csr o r a n) m = scalar r
 targetOf (I.CsrImm o r i n) m = scalar r
-targetOf (I.Vector o a) m = lanes (active m) (a .vd)
+targetOf (I.Vector o a) m = lanes (written (a .masked) m) (a .vd)
 targetOf (I.VMove r s) m = lanes (active m) r
+targetOf (I.VMerge r b s) m = lanes (active m) r
 targetOf (I.VMoveXS r b) m = scalar r
 targetOf (I.VMoveSX r a) m = lanes (active m) r
-targetOf (I.Vid r) m = lanes (active m) r
+targetOf (I.Vid t r) m = lanes (written t m) r
 targetOf (I.VBranch c a b n) m = split (m .warp .depth)
 targetOf I.Join m = split (m .warp .depth - 1)
 targetOf (I.SetRpc r a n) m = scalar r
@@ -231,11 +232,12 @@ module _ (m : State) where
   within (I.Fence r a n) = leaves _ _ refl refl refl
   within (I.Csr o r a n) = csr o n r (a .0) _
   within (I.CsrImm o r i n) = csr o n r i i
-  within (I.Vector o a) = fills (active m) (a .vd) _
+  within (I.Vector o a) = fills (written (a .masked) m) (a .vd) _
   within (I.VMove r s) = fills (active m) r _
+  within (I.VMerge r b s) = fills (active m) r _
   within (I.VMoveXS r b) = puts r _ _ refl refl refl
   within (I.VMoveSX r a) = fills (active m) r _
-  within (I.Vid r) = fills (active m) r _
+  within (I.Vid t r) = fills (written t m) r _
   within (I.VBranch c a b n) = vbranch _ _
   within I.Join = joined
   within (I.SetRpc r a n) = setrpc r a n
@@ -281,9 +283,10 @@ target-small m h (I.Csr o r a n) = tt
 target-small m h (I.CsrImm o r i n) = tt
 target-small m h (I.Vector o a) = tt
 target-small m h (I.VMove r s) = tt
+target-small m h (I.VMerge r b s) = tt
 target-small m h (I.VMoveXS r b) = tt
 target-small m h (I.VMoveSX r a) = tt
-target-small m h (I.Vid r) = tt
+target-small m h (I.Vid t r) = tt
 target-small m h (I.VBranch c a b n) = tt
 target-small m h I.Join = tt
 target-small m h (I.SetRpc r a n) = tt

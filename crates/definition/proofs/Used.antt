@@ -30,9 +30,10 @@ module _ (m : State) where
   tests-used (I.CsrImm o r i n) = refl
   tests-used (I.Vector o a) = refl
   tests-used (I.VMove r s) = refl
+  tests-used (I.VMerge r b s) = refl
   tests-used (I.VMoveXS r b) = refl
   tests-used (I.VMoveSX r a) = refl
-  tests-used (I.Vid r) = refl
+  tests-used (I.Vid t r) = refl
   tests-used (I.VBranch c a b n) = refl
   tests-used I.Join = refl
   tests-used (I.SetRpc r a n) = refl
@@ -60,9 +61,10 @@ module _ (m : State) where
   target-used (I.CsrImm o r i n) = refl
   target-used (I.Vector o a) = refl
   target-used (I.VMove r s) = refl
+  target-used (I.VMerge r b s) = refl
   target-used (I.VMoveXS r b) = refl
   target-used (I.VMoveSX r a) = refl
-  target-used (I.Vid r) = refl
+  target-used (I.Vid t r) = refl
   target-used (I.VBranch c a b n) = refl
   target-used I.Join = refl
   target-used (I.SetRpc r a n) = refl

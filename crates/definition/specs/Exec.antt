@@ -16,7 +16,7 @@ use Rattle.isa.specs.declared.XReg.{XReg}
 use Rattle.isa.specs.declared.VReg.{VReg}
 use Rattle.isa.specs.Prefix.{regExt, regExtI}
 use Rattle.lanes.specs.declared.Lane.{Lane}
-use Rattle.lanes.specs.Lanes.{laneOf, operandOf, opLane, writeLanes, valueOf}
+use Rattle.lanes.specs.Lanes.{laneOf, operandOf, opLane, mergeLane, writeLanes, valueOf}
 use Rattle.lanes.specs.declared.Operand.{Operand}
 use Rattle.lanes.specs.declared.Operand.the-variants.{Reg, Word}
 use Rattle.memory.specs.Memories.{Contents, loadFrom, storeTo}
@@ -25,7 +25,7 @@ use Rattle.warp.specs.declared.Warp.{Warp}
 use Rattle.warp.specs.Warp.{withStop, writeX, next, pends, linked, branched}
 use Rattle.warp.specs.Splits.{parted, joinOf, setRpcOf}
 use Rattle.warp.specs.Csr.{csrDone}
-use Rattle.definition.specs.State.{State, state, fixedOf, active, xOf, pcBy, evenOf, memoryOf, scalarAt, laneAt, elseOf}
+use Rattle.definition.specs.State.{State, state, fixedOf, active, written, xOf, pcBy, evenOf, memoryOf, scalarAt, laneAt, elseOf}
 
 -- the warp becomes u; register r of each lane l below NUMT that `on` picks gets f l, then PC + 4; the memories' bytes become e, then PC + 4
 pub data Effect : Type 0 where
@@ -78,11 +78,12 @@ effectOf (I.OpReg o r a b) m = puts r (applyOf o (xOf a m) (xOf b m)) m
 effectOf (I.Fence r a n) m = goes (next (m .warp))
 effectOf (I.Csr o r a n) m = goes (csrDone o n r (a .0) (xOf a m) (m .warp))
 effectOf (I.CsrImm o r i n) m = goes (csrDone o n r i i (m .warp))
-effectOf (I.Vector o a) m = lanes (a .vd) (opLane o (m .vector) (a .vs2) (sourceOf (immediateOf o) (a .src) m)) m
+effectOf (I.Vector o a) m = writes (written (a .masked) m) (a .vd) (opLane o (m .vector) (a .vs2) (sourceOf (immediateOf o) (a .src) m))
 effectOf (I.VMove r s) m = lanes r (operandOf (m .vector) (sourceOf extendOf s m)) m
+effectOf (I.VMerge r b s) m = lanes r (mergeLane (m .vector) b (sourceOf extendOf s m)) m
 effectOf (I.VMoveXS r b) m = puts r (valueOf (fixedOf m .numt) (active m) (laneOf (m .vector) b)) m
 effectOf (I.VMoveSX r a) m = lanes r (λ l. xOf a m) m
-effectOf (I.Vid r) m = lanes r (λ l. l .0) m
+effectOf (I.Vid t r) m = writes (written t m) r (λ l. l .0)
 effectOf (I.VBranch c a b n) m = goes (parted (elseOf c a b m) (pcBy 13 n m) (m .warp))
 effectOf I.Join m = goes (joinOf (m .warp))
 effectOf (I.SetRpc r a n) m = goes (setRpcOf r a n (m .warp))

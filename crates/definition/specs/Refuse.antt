@@ -12,6 +12,7 @@ use Rattle.isa.specs.declared.Instr.the-variants as I
 use Rattle.isa.specs.declared.Space.{Space}
 use Rattle.isa.specs.declared.StoreOp.{StoreOp}
 use Rattle.isa.specs.declared.VReg.{VReg}
+use Rattle.isa.specs.Masked.{overMask}
 use Rattle.lanes.specs.declared.Lane.{Lane}
 use Rattle.lanes.specs.Lanes.{fileWords, laneOf, uniformOf}
 use Rattle.memory.specs.Memory.{sizeOf, widthOf}
@@ -53,7 +54,7 @@ onKernel k w = leb (w .fixed .codeBase) (w .pc) && ltb (placeOf w) (length k)
 abbrev pub fetchTests : List ℕ → Warp → List (Row Bool)
 fetchTests k w = 3 ⇒ w .ended ∷ 4 ⇒ w .waiting ∷ 5 ⇒ not (onKernel k w) ∷ []
 
--- ---- 6 to 11, 14 and 15: the word's own, one line an instruction; Refused is a word that isn't in the tables, or that doesn't take the pending prefix
+-- ---- 6 to 11, 14 and 15: the word's own, one line an instruction; Refused is a word that isn't in the tables, or that doesn't take the pending prefix; a masked word is 6 too where it would write its mask
 
 -- CSR number outside 0x800 to 0x80C, or a write to one other than PRINT and RPC
 abbrev pub noCsr : CsrOp → ℕ → ℕ → Bool
@@ -108,11 +109,12 @@ refusalsOf (I.OpReg o r a b) m = []
 refusalsOf (I.Fence r a n) m = []
 refusalsOf (I.Csr o r a n) m = 7 ⇒ noCsr o n (a .0) ∷ []
 refusalsOf (I.CsrImm o r i n) m = 7 ⇒ noCsr o n i ∷ []
-refusalsOf (I.Vector o a) m = []
+refusalsOf (I.Vector o a) m = 6 ⇒ overMask (I.Vector o a) ∷ []
 refusalsOf (I.VMove r s) m = []
+refusalsOf (I.VMerge r b s) m = 6 ⇒ overMask (I.VMerge r b s) ∷ []
 refusalsOf (I.VMoveXS r b) m = 10 ⇒ mixed (laneOf (m .vector) b) m ∷ []
 refusalsOf (I.VMoveSX r a) m = []
-refusalsOf (I.Vid r) m = []
+refusalsOf (I.Vid t r) m = 6 ⇒ overMask (I.Vid t r) ∷ []
 refusalsOf (I.VBranch c a b n) m = 8 ⇒ (not (eqb (elseOf c a b m) 0) && astray (pcBy 13 n m)) ∷ []
 refusalsOf I.Join m = []
 refusalsOf (I.SetRpc r a n) m = []

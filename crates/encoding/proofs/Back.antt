@@ -5,6 +5,7 @@ use mathlib.Core.List.{List, _++_}
 use mathlib.Core.Bool.{Bool, true, false, cond, _&&_}
 use native.Mathlib.Omega.{arith}
 use lib.Dec.{T, eqb, eqb→eq}
+use borrow.Author.Tests.{eqb-true, eqb-false}
 use Rattle.answer.specs.Rows.{Row}
 use Rattle.word.specs.declared.Op.{Op}
 use Rattle.isa.specs.declared.LoadOp.{LoadOp}
@@ -13,16 +14,16 @@ use Rattle.isa.specs.declared.Source.{Source}
 use Rattle.isa.specs.declared.Source.the-variants as From
 use Rattle.isa.specs.declared.Instr.{Instr}
 use Rattle.isa.specs.declared.Instr.the-variants as I
-use Rattle.isa.specs.Fields.{Fields, fieldsOf, funct6, vm, immI, immS, immB, immU, immJ, privateLoadOffset, privateStoreOffset}
-use Rattle.isa.specs.Table.{on, wordAt, asWords}
+use Rattle.isa.specs.Fields.{Fields, v, fieldsOf, funct6, vm, isMasked, immI, immS, immB, immU, immJ, privateLoadOffset, privateStoreOffset}
+use Rattle.isa.specs.Table.{on, wordAt, asWords, fixed}
 use Rattle.isa.specs.Scalar.{luiWord, auipcWord, jalWord, jumps, jalrWord, conditions, branchAs, branchWord, loads, loadAs, loadWord, stores, storeAs, storeWord, immediates, leftShifts, rightShifts, immediateAs, shiftAs, shiftWord, shifts, opImmWord, opAs, byFunct3, ops, opWord, fences, fenceWord, csrOps, csrImmediates, csrAs, csrImmAs, csrWord}
-use Rattle.isa.specs.Vector.{OpForms, has, vectorTable, multiplyTable, vectorAs, moves, plainWord, movesM, multiplyWord, fromV, fromX, fromI, operands, operandsWord, vectorWord}
+use Rattle.isa.specs.Vector.{OpForms, has, vectorTable, multiplyTable, vectorAs, moveWord, moves, plainWord, movesM, multiplyWord, fromV, fromX, fromI, operands, vectorWord}
 use Rattle.isa.specs.Ventus.{vbranchAs, joinWord, joins, splitsWord, endPrgWord, barrierWord, stops, stopWord, prefixWord, warpWords, warpWord, vstores, accesses, vloadAs, vstoreAs, laneAccessWord, ploadAs, pstoreAs, privateWord}
 use Rattle.isa.specs.Decode.{opcodes, decodeOf}
 use Rattle.isa.specs.Fits.{fieldOf}
 use Rattle.isa.proofs.Laws.{both-true, Rows, found, rows-append, every-row, rows-tested, fixed-at}
 use Rattle.isa.proofs.Decoded.{SmallFields, small}
-use Rattle.encoding.specs.Encode.{condNumber, loadNumber, storeNumber, csrNumber, codeIn, firstOf, secondOf, opCodes, immCodes, vectorCodes, operandCode, wordFrom, typeR, typeI, typeS, typeB, typeU, typeJ, unmasked, wordOf}
+use Rattle.encoding.specs.Encode.{condNumber, loadNumber, storeNumber, csrNumber, codeIn, firstOf, secondOf, opCodes, immCodes, vectorCodes, operandCode, wordFrom, typeR, typeI, typeS, typeB, typeU, typeJ, withVm, wordOf}
 
 -- a word is its fields, one cut at a time
 cut₁ : (w : ℕ) → w ≡ w % 128 + w / 128 * 128
@@ -279,80 +280,91 @@ module _ (c : Fields) (h : SmallFields c) where
       (table-back 0b1110011 c h csrImmAs (codeIn csrNumber csrImmediates) (c .funct3) csrImmediates tt
       (λ o e. type-I 0b1110011 c h _ e)))
 
+  -- funct6 and vm make funct7
+  with-vm : (n : ℕ) → n ≡ funct6 c → (t : Bool) → isMasked c ≡ t → withVm t n ≡ c .funct7
+  with-vm n e true q = omega (arith, eqb-true (vm c) 0 q)
+  with-vm n e false q = omega (arith, eqb-false (vm c) 0 q)
+
+  is-one : vm c ≡ 1 → isMasked c ≡ false
+  is-one q = rw q
+
   -- the vector words: by the last operand, whose form is funct3
-  module _ (m : vm c ≡ 1) (s : Source) (g : ℕ) (r : fieldOf s ≡ c .rs1) (o : operandCode g s ≡ c .funct3) where
-    odd : (n : ℕ) → n ≡ funct6 c → unmasked n ≡ c .funct7
-    odd n e = omega arith
-
-    formed-back :
-        (t : List (Row OpForms)) → T (every-row (λ f n. coded (firstOf vectorCodes (f .op)) g (secondOf vectorCodes (f .op)) n) t)
-        → Rows (Back 0b1010111 c) (on c) (funct6 c) (asWords (vectorAs s) t)
-    unfolding wordOf
-    formed-back t q =
-        rows-tested (Back 0b1010111 c) (vectorAs s) (λ f n. coded (firstOf vectorCodes (f .op)) g (secondOf vectorCodes (f .op)) n) c
-        (funct6 c) t q
-        (λ f q.
-        let e = codes (firstOf vectorCodes (f .op)) g (secondOf vectorCodes (f .op)) (funct6 c) q in
-        where-formed 0b1010111 c (has s f) _
-        (λ ne. same 0b1010111 c _ _ _ _ _ (odd _ (e .1)) refl r (rw (e .0) o) refl))
-
-  plain-back : (s : Source) → vm c ≡ 1 → fieldOf s ≡ c .rs1 → operandCode 0 s ≡ c .funct3 → Back 0b1010111 c (plainWord s c)
-  unfolding plainWord wordOf
-  plain-back s m r o =
-      found (Back 0b1010111 c) (on c) I.Refused (funct6 c) (moves s ++ asWords (vectorAs s) vectorTable) (refused _ c)
-      (rows-append (Back 0b1010111 c) (on c) (funct6 c) (moves s) (asWords (vectorAs s) vectorTable) (
-        (λ e.
-            fixed-at (Back 0b1010111 c) (c .rs2) 0 _ (refused _ c)
-            (λ z ne. same 0b1010111 c _ _ _ _ _ (odd m s 0 r o _ (sym e)) (sym z) r o refl)),
-        tt,
-      )
-      (formed-back m s 0 r o vectorTable tt))
-
-  moves-m-back :
-      (s : Source) → vm c ≡ 1 → operandCode 2 s ≡ c .funct3 → fieldOf s ≡ c .rs1 → Rows (Back 0b1010111 c) (on c) (funct6 c) (movesM s)
+  formed-back :
+      (s : Source) (g : ℕ) → fieldOf s ≡ c .rs1 → operandCode g s ≡ c .funct3
+      → (t : List (Row OpForms)) → T (every-row (λ f n. coded (firstOf vectorCodes (f .op)) g (secondOf vectorCodes (f .op)) n) t)
+      → Rows (Back 0b1010111 c) (on c) (funct6 c) (asWords (vectorAs s) t)
   unfolding wordOf
-  moves-m-back (From.V a) m o r = (
+  formed-back s g r o t q =
+      rows-tested (Back 0b1010111 c) (vectorAs s) (λ f n. coded (firstOf vectorCodes (f .op)) g (secondOf vectorCodes (f .op)) n) c
+      (funct6 c) t q
+      (λ f q.
+      let e = codes (firstOf vectorCodes (f .op)) g (secondOf vectorCodes (f .op)) (funct6 c) q in
+      where-formed 0b1010111 c (has s f) _
+      (λ ne. same 0b1010111 c _ _ _ _ _ (with-vm _ (e .1) (isMasked c) refl) refl r (rw (e .0) o) refl))
+
+  -- vmerge or vmv.v
+  move-back : (s : Source) → fieldOf s ≡ c .rs1 → operandCode 0 s ≡ c .funct3 → funct6 c ≡ 0b010111 → Back 0b1010111 c (moveWord s c)
+  unfolding wordOf
+  move-back s r o e = either (isMasked c) refl
+    where
+      either : (t : Bool) → isMasked c ≡ t → Back 0b1010111 c (cond t (I.VMerge (v (c .rd)) (v (c .rs2)) s) (fixed (c .rs2) 0 (I.VMove (v (c .rd)) s)))
+      either true q = λ ne. same 0b1010111 c _ _ _ _ _ (with-vm _ (sym e) true q) refl r o refl
+      either false q =
+          fixed-at (Back 0b1010111 c) (c .rs2) 0 _ (refused _ c)
+          (λ z ne. same 0b1010111 c _ _ _ _ _ (with-vm _ (sym e) false q) (sym z) r o refl)
+
+  plain-back : (s : Source) → fieldOf s ≡ c .rs1 → operandCode 0 s ≡ c .funct3 → Back 0b1010111 c (plainWord s c)
+  unfolding plainWord
+  plain-back s r o =
+      found (Back 0b1010111 c) (on c) I.Refused (funct6 c) (moves s ++ asWords (vectorAs s) vectorTable) (refused _ c)
+      (rows-append (Back 0b1010111 c) (on c) (funct6 c) (moves s) (asWords (vectorAs s) vectorTable) ((λ e. move-back s r o e), tt)
+      (formed-back s 0 r o vectorTable tt))
+
+  moves-m-back : (s : Source) → operandCode 2 s ≡ c .funct3 → Rows (Back 0b1010111 c) (on c) (funct6 c) (movesM s)
+  unfolding wordOf
+  moves-m-back (From.V a) o = (
     (λ e.
-        fixed-at (Back 0b1010111 c) (c .rs1) 0 _ (refused _ c)
-        (λ z ne. same 0b1010111 c _ _ _ _ _ (odd m (From.V a) 2 r o _ (sym e)) refl (sym z) o refl)),
+        fixed-at (Back 0b1010111 c) (vm c) 1 _ (refused _ c)
+        (λ m. fixed-at (Back 0b1010111 c) (c .rs1) 0 _ (refused _ c)
+        (λ z ne. same 0b1010111 c _ _ _ _ _ (with-vm _ (sym e) false (is-one m)) refl (sym z) o refl))),
     (
       (λ e.
           fixed-at (Back 0b1010111 c) (c .rs2) 0 _ (refused _ c)
           (λ y. fixed-at (Back 0b1010111 c) (c .rs1) 0b10001 _ (refused _ c)
-          (λ z ne. same 0b1010111 c _ _ _ _ _ (odd m (From.V a) 2 r o _ (sym e)) (sym y) (sym z) o refl))),
+          (λ z ne. same 0b1010111 c _ _ _ _ _ (with-vm _ (sym e) (isMasked c) refl) (sym y) (sym z) o refl))),
       tt,
     ),
   )
-  moves-m-back (From.X a) m o r = (
+  moves-m-back (From.X a) o = (
     (λ e.
-        fixed-at (Back 0b1010111 c) (c .rs2) 0 _ (refused _ c)
-        (λ z ne. same 0b1010111 c _ _ _ _ _ (odd m (From.X a) 2 r o _ (sym e)) (sym z) refl o refl)),
+        fixed-at (Back 0b1010111 c) (vm c) 1 _ (refused _ c)
+        (λ m. fixed-at (Back 0b1010111 c) (c .rs2) 0 _ (refused _ c)
+        (λ z ne. same 0b1010111 c _ _ _ _ _ (with-vm _ (sym e) false (is-one m)) (sym z) refl o refl))),
     tt,
   )
-  moves-m-back (From.I n) m o r = tt
-  moves-m-back (From.Long n) m o r = tt
+  moves-m-back (From.I n) o = tt
+  moves-m-back (From.Long n) o = tt
 
-  multiply-back : (s : Source) → vm c ≡ 1 → fieldOf s ≡ c .rs1 → operandCode 2 s ≡ c .funct3 → Back 0b1010111 c (multiplyWord s c)
+  multiply-back : (s : Source) → fieldOf s ≡ c .rs1 → operandCode 2 s ≡ c .funct3 → Back 0b1010111 c (multiplyWord s c)
   unfolding multiplyWord
-  multiply-back s m r o =
+  multiply-back s r o =
       found (Back 0b1010111 c) (on c) I.Refused (funct6 c) (movesM s ++ asWords (vectorAs s) multiplyTable) (refused _ c)
-      (rows-append (Back 0b1010111 c) (on c) (funct6 c) (movesM s) (asWords (vectorAs s) multiplyTable) (moves-m-back s m o r)
-      (formed-back m s 2 r o multiplyTable tt))
+      (rows-append (Back 0b1010111 c) (on c) (funct6 c) (movesM s) (asWords (vectorAs s) multiplyTable) (moves-m-back s o)
+      (formed-back s 2 r o multiplyTable tt))
 
   vector-back : Back 0b1010111 c (vectorWord c)
-  unfolding vectorWord operandsWord
+  unfolding vectorWord
   vector-back =
-      fixed-at (Back 0b1010111 c) (vm c) 1 (operandsWord c) (refused _ c)
-      (λ m. found (Back 0b1010111 c) (on c) I.Refused (c .funct3) operands (refused _ c) (
-        (λ e. plain-back (fromV c) m refl (sym e)),
+      found (Back 0b1010111 c) (on c) I.Refused (c .funct3) operands (refused _ c) (
+        (λ e. plain-back (fromV c) refl (sym e)),
         (
-          (λ e. plain-back (fromI c) m refl (sym e)),
+          (λ e. plain-back (fromI c) refl (sym e)),
           (
-            (λ e. plain-back (fromX c) m refl (sym e)),
-            ((λ e. multiply-back (fromV c) m refl (sym e)), ((λ e. multiply-back (fromX c) m refl (sym e)), tt)),
+            (λ e. plain-back (fromX c) refl (sym e)),
+            ((λ e. multiply-back (fromV c) refl (sym e)), ((λ e. multiply-back (fromX c) refl (sym e)), tt)),
           ),
         ),
-      ))
+      )
 
   join-back : c .funct3 ≡ 2 → Back 0b1011011 c (joinWord c)
   unfolding joinWord wordOf

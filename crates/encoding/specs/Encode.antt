@@ -1,7 +1,7 @@
 -- The word of an instruction, by the same tables.
 use Prim.Native.Nat.{ℕ, _+_, _*_, _/_, _%_, _^_}
 use mathlib.Core.List.{List, [], _∷_, _++_}
-use mathlib.Core.Bool.{cond}
+use mathlib.Core.Bool.{Bool, true, false, cond}
 use lib.Dec.{eqb}
 use Rattle.answer.specs.Rows.{Row}
 use Rattle.word.specs.declared.Op.{Op}
@@ -126,9 +126,9 @@ abbrev pub typeJ : ℕ → ℕ → Fields
 typeJ imm rd =
     typeR (imm / 1048576 * 64 + imm / 32 % 64) (imm / 2 % 16 * 2 + imm / 2048 % 2) (imm / 32768 % 32) (imm / 4096 % 8) rd
 
--- funct6 with vm = 1
-abbrev pub unmasked : ℕ → ℕ
-unmasked n = n * 2 + 1
+-- funct6 with vm under it, which is 0 where the word is masked
+abbrev pub withVm : Bool → ℕ → ℕ
+withVm t n = n * 2 + cond t 0 1
 
 abbrev pub laneOpcode : Space → ℕ
 laneOpcode Plain = 0b1111011
@@ -150,11 +150,12 @@ wordOf (I.Csr o d a n) = wordFrom 0b1110011 (typeI n (a .0) (codeIn csrNumber cs
 wordOf (I.CsrImm o d a n) = wordFrom 0b1110011 (typeI n a (codeIn csrNumber csrImmediates o) (d .0))
 wordOf (I.Vector o a) =
     wordFrom 0b1010111
-    (typeR (unmasked (secondOf vectorCodes o)) (a .vs2 .0) (fieldOf (a .src)) (operandCode (firstOf vectorCodes o) (a .src)) (a .vd .0))
-wordOf (I.VMove d s) = wordFrom 0b1010111 (typeR (unmasked 0b010111) 0 (fieldOf s) (operandCode 0b000 s) (d .0))
-wordOf (I.VMoveXS d b) = wordFrom 0b1010111 (typeR (unmasked 0b010000) (b .0) 0 0b010 (d .0))
-wordOf (I.VMoveSX d a) = wordFrom 0b1010111 (typeR (unmasked 0b010000) 0 (a .0) 0b110 (d .0))
-wordOf (I.Vid d) = wordFrom 0b1010111 (typeR (unmasked 0b010100) 0 0b10001 0b010 (d .0))
+    (typeR (withVm (a .masked) (secondOf vectorCodes o)) (a .vs2 .0) (fieldOf (a .src)) (operandCode (firstOf vectorCodes o) (a .src)) (a .vd .0))
+wordOf (I.VMove d s) = wordFrom 0b1010111 (typeR (withVm false 0b010111) 0 (fieldOf s) (operandCode 0b000 s) (d .0))
+wordOf (I.VMerge d b s) = wordFrom 0b1010111 (typeR (withVm true 0b010111) (b .0) (fieldOf s) (operandCode 0b000 s) (d .0))
+wordOf (I.VMoveXS d b) = wordFrom 0b1010111 (typeR (withVm false 0b010000) (b .0) 0 0b010 (d .0))
+wordOf (I.VMoveSX d a) = wordFrom 0b1010111 (typeR (withVm false 0b010000) 0 (a .0) 0b110 (d .0))
+wordOf (I.Vid t d) = wordFrom 0b1010111 (typeR (withVm t 0b010100) 0 0b10001 0b010 (d .0))
 wordOf (I.VBranch o a b n) = wordFrom 0b1011011 (typeB n (b .0) (a .0) (codeIn condNumber conditions o))
 wordOf I.Join = wordFrom 0b1011011 (typeR 0 0 0 0b010 0)
 wordOf (I.SetRpc d a n) = wordFrom 0b1011011 (typeI n (a .0) 0b011 (d .0))

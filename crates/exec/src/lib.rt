@@ -25,6 +25,7 @@ use lane_handlers::vbranch;
 use lane_handlers::vector;
 use lane_handlers::vid;
 use lane_handlers::vload;
+use lane_handlers::vmerge;
 use lane_handlers::vmove;
 use lane_handlers::vmove_sx;
 use lane_handlers::vmove_xs;
@@ -101,6 +102,7 @@ fn lane_word(
         kinds::VMOVE => vmove(h, g, x, v, w),
         kinds::REGEXT => pend(prefix::REGEXT, h, w),
         kinds::REGEXTI => pend(prefix::REGEXTI, h, w),
+        kinds::VMERGE => vmerge(h, g, x, v, w),
         _ => op_reg(h, x, kind, w),
     }
 }

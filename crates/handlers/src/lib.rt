@@ -271,7 +271,7 @@ pub fn load(
     ensures { λ c. ⌜ ((s v : List ℕ) → length s ≡ flatCount → Handles (execOf (Instr.Load (loadOpOf (fieldsOf w)) (xdIn w) (xs1In w) (immI (fieldsOf w)))) c (lists (now (g .entry)) (now (h .entry)) (now (x .entry)) s v (contents (now (d .entry)) (now (l .entry)))) (lists (now (g .entry)) (now (h .exit)) (now (x .exit)) s v (contents (now (d .entry)) (now (l .entry))))) ⌝ }
 {
     let p = memory::plain_address(first(x, w), imm_i(w));
-    let found = memory::scalar_load(d, g[DATABASE], l, g[LDS], fields::load_op(w), p);
+    let found = access::scalar_load(d, g[DATABASE], l, g[LDS], fields::load_op(w), p);
     match found {
         Loaded::Found(y) => gives(y, h, x, w),
         Loaded::Outside => answer::OUTSIDE,
@@ -290,7 +290,7 @@ pub fn store(
     ensures { λ c. ⌜ ((s v : List ℕ) → length s ≡ flatCount → Handles (execOf (Instr.Store (storeOpOf (fieldsOf w)) (xs1In w) (xs2In w) (immS (fieldsOf w)))) c (lists (now (g .entry)) (now (h .entry)) (now (x .entry)) s v (contents (now (d .entry)) (now (l .entry)))) (lists (now (g .entry)) (now (h .exit)) (now (x .entry)) s v (contents (now (d .exit)) (now (l .exit))))) ⌝ }
 {
     let p = memory::plain_address(first(x, w), imm_s(w));
-    if memory::scalar_store(
+    if access::scalar_store(
         d,
         g[DATABASE],
         l,

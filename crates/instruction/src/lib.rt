@@ -9,6 +9,7 @@ ghost use Rattle.isa.specs.Scalar.{immediateAs, shiftAs, opAs};
 ghost use Rattle.isa.specs.Number.{opAt};
 ghost use Rattle.isa.specs.Decode.{decodeOf};
 ghost use Rattle.isa.specs.Kinds.{laneOpWord, laneGroups, ofRegisters, ofImmediates, opLimit};
+ghost use Rattle.isa.specs.Masked.{overMask};
 ghost use Rattle.isa.specs.Prefix.{onFields};
 ghost use Rattle.isa.specs.Wide.{numbersIn, csrWide, wideOf};
 use isa::Instr;
@@ -24,6 +25,7 @@ use isa::fields::imm_s;
 use isa::fields::imm_u;
 use isa::fields::lane_store_op;
 use isa::fields::load_op;
+use isa::fields::masked;
 use isa::fields::op_at;
 use isa::fields::plain;
 use isa::fields::private_load_offset;
@@ -40,6 +42,8 @@ use isa::fields::xd;
 use isa::fields::xs1;
 use isa::fields::xs2;
 use isa::kinds;
+use isa::masked::is_compare;
+use isa::masked::is_v0;
 use word::Op;
 
 fn of_registers(op: Op, w: u64) -> Instr
@@ -76,6 +80,7 @@ fn vector(kind: u32, w: u64) -> Instr
         vd: vd(w),
         vs2: vs2(w),
         src: source(w),
+        masked: masked(w),
     };
     Instr::Vector(op_at(kind % kinds::OPS), args)
 }
@@ -150,10 +155,11 @@ fn lane_word(kind: u32, w: u64) -> Instr
         kinds::BARRIER => Instr::Barrier(rs1(w)),
         kinds::VMOVE_XS => Instr::VMoveXS(xd(w), vs2(w)),
         kinds::VMOVE_SX => Instr::VMoveSX(vd(w), xs1(w)),
-        kinds::VID => Instr::Vid(vd(w)),
+        kinds::VID => Instr::Vid(masked(w), vd(w)),
         kinds::VMOVE => Instr::VMove(vd(w), source(w)),
         kinds::REGEXT => Instr::RegExt(imm_i(w)),
         kinds::REGEXTI => Instr::RegExtI(imm_i(w)),
+        kinds::VMERGE => Instr::VMerge(vd(w), vs2(w), source(w)),
         _ => register_word(kind, w),
     }
 }
@@ -183,4 +189,16 @@ pub fn decode(w: u32) -> Instr
     ensures { λ r. ⌜ r ≡ decodeOf w ⌝ }
 {
     instruction(decoder::kind(w), plain(w))
+}
+
+// A masked word, no compare, whose destination is v0.
+pub fn over_mask(i: Instr) -> bool
+    ensures { λ t. ⌜ t ≡ overMask i ⌝ }
+{
+    match i {
+        Instr::Vector(o, a) => a.masked & (is_v0(a.vd) & !is_compare(o)),
+        Instr::VMerge(d, _, _) => is_v0(d),
+        Instr::Vid(t, d) => t & is_v0(d),
+        _ => false,
+    }
 }

@@ -15,13 +15,14 @@ use Rattle.isa.specs.declared.Source.the-variants as From
 use Rattle.isa.specs.declared.Instr.{Instr}
 use Rattle.isa.specs.declared.Instr.the-variants as I
 use Rattle.isa.specs.Bounds.{fieldLimit}
-use Rattle.isa.specs.Fields.{Fields, x, v, fieldsOf, funct6, vm, immI}
+use Rattle.isa.specs.Fields.{Fields, x, v, fieldsOf, funct6, vm, isMasked, immI}
 use Rattle.isa.specs.Table.{on, wordAt, asWords, fixed}
 use Rattle.isa.specs.Scalar.{luiWord, auipcWord, jalWord, jumps, jalrWord, conditions, branchAs, branchWord, loads, loadAs, loadWord, stores, storeAs, storeWord, immediates, leftShifts, rightShifts, immediateAs, shiftAs, shiftWord, shifts, opImmWord, base, multiplies, alternates, opAs, byFunct3, ops, opWord, fences, fenceWord, csrOps, csrImmediates, csrAs, csrImmAs, csrWord}
-use Rattle.isa.specs.Vector.{OpForms, vectorTable, multiplyTable, has, vectorAs, moves, plainWord, movesM, multiplyWord, operands, operandsWord, vectorWord}
+use Rattle.isa.specs.Vector.{OpForms, vectorTable, multiplyTable, has, vectorAs, moves, plainWord, movesM, multiplyWord, operands, vectorWord}
 use Rattle.isa.specs.Ventus.{vbranchAs, joinWord, joins, splitsWord, endPrgWord, barrierWord, stops, stopWord, prefixWord, warpWords, warpWord, vstores, accesses, vloadAs, vstoreAs, laneAccessWord, ploadAs, pstoreAs, privateWord}
 use Rattle.isa.specs.Decode.{opcodes, decodeOf}
-use Rattle.isa.specs.Fits.{Range, _under_, _listed_, isIn, fieldOf, sourceLimit, shiftOps, vectorOps, rangesOf, holdsAll, fitsOf, AllHold, Fits}
+use Rattle.isa.specs.Number.{isIn}
+use Rattle.isa.specs.Fits.{Range, _under_, _listed_, fieldOf, sourceLimit, shiftOps, vectorOps, rangesOf, holdsAll, fitsOf, AllHold, Fits}
 use Rattle.isa.proofs.Laws.{both-true, Rows, found, rows-append, every-row, rows-tested, fixed-at}
 
 -- the fields are those of a word; funct7 is what is left
@@ -165,6 +166,10 @@ module _ (c : Fields) (h : SmallFields c) (top : c .funct7 < 128) where
   fixed-fits : (n k : ℕ) (i : Instr) → Fits i → Fits (fixed n k i)
   fixed-fits n k i f = fixed-at Fits n k i tt (λ e. f)
 
+  either-fits : (b : Bool) (i j : Instr) → Fits i → Fits j → Fits (cond b i j)
+  either-fits true i j p q = p
+  either-fits false i j p q = q
+
   -- the vector words, by the last operand
   vector-rows :
       (s : Source) (t : List (Row OpForms)) → fieldOf s < sourceLimit s → T (every-row (formedIn s) t)
@@ -178,15 +183,15 @@ module _ (c : Fields) (h : SmallFields c) (top : c .funct7 < 128) where
   plain-fits s z =
       found Fits (on c) I.Refused (funct6 c) (moves s ++ asWords (vectorAs s) vectorTable) tt
       (rows-append Fits (on c) (funct6 c) (moves s) (asWords (vectorAs s) vectorTable)
-      ((λ e. fixed-fits (c .rs2) 0 (I.VMove (v (c .rd)) s) (h .rd, (z, tt))), tt)
+      ((λ e. either-fits (isMasked c) _ _ (h .rd, (h .rs2, (z, tt))) (fixed-fits (c .rs2) 0 (I.VMove (v (c .rd)) s) (h .rd, (z, tt)))), tt)
       (vector-rows s vectorTable z (plain-ops s)))
 
   moves-m-fit : (s : Source) → Rows Fits (on c) (funct6 c) (movesM s)
   moves-m-fit (From.V r) = (
-    (λ e. fixed-fits (c .rs1) 0 _ (h .rd, (h .rs2, tt))),
+    (λ e. fixed-fits (vm c) 1 _ (fixed-fits (c .rs1) 0 _ (h .rd, (h .rs2, tt)))),
     ((λ e. fixed-fits (c .rs2) 0 _ (fixed-fits (c .rs1) 0b10001 _ (h .rd, tt))), tt),
   )
-  moves-m-fit (From.X r) = ((λ e. fixed-fits (c .rs2) 0 _ (h .rd, (h .rs1, tt))), tt)
+  moves-m-fit (From.X r) = ((λ e. fixed-fits (vm c) 1 _ (fixed-fits (c .rs2) 0 _ (h .rd, (h .rs1, tt)))), tt)
   moves-m-fit (From.I n) = tt
   moves-m-fit (From.Long n) = tt
 
@@ -198,10 +203,9 @@ module _ (c : Fields) (h : SmallFields c) (top : c .funct7 < 128) where
       (vector-rows s multiplyTable z (multiply-ops s)))
 
   vector-fits : Fits (vectorWord c)
-  unfolding vectorWord operandsWord
+  unfolding vectorWord
   vector-fits =
-      fixed-fits (vm c) 1 (operandsWord c)
-      (found Fits (on c) I.Refused (c .funct3) operands tt (
+      found Fits (on c) I.Refused (c .funct3) operands tt (
         (λ e. plain-fits (From.V (v (c .rs1))) (h .rs1)),
         (
           (λ e. plain-fits (From.I (c .rs1)) (h .rs1)),
@@ -213,7 +217,7 @@ module _ (c : Fields) (h : SmallFields c) (top : c .funct7 < 128) where
             ),
           ),
         ),
-      ))
+      )
 
   join-fits : Fits (joinWord c)
   unfolding joinWord

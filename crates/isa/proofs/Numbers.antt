@@ -123,7 +123,7 @@ module _ (c : Fields) (f g : OnFields) (h : AgreeAt c f g) where
               (λ e t. rw (h .vd, h .x1 (t .0))),
               (
                 (λ e t. rw (h .vd)),
-                ((λ e t. rw (h .vd, source-agrees t)), ((λ e t. refl), ((λ e t. refl), tt))),
+                ((λ e t. rw (h .vd, source-agrees t)), ((λ e t. refl), ((λ e t. refl), ((λ e t. rw (h .vd, h .v2, source-agrees t)), tt)))),
               ),
             ),
           ),

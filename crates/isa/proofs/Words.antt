@@ -12,7 +12,7 @@ use Rattle.isa.specs.declared.Space.the-variants.{Plain, Private}
 use Rattle.isa.specs.declared.LoadOp.{LoadOp}
 use Rattle.isa.specs.declared.StoreOp.{StoreOp}
 use Rattle.isa.specs.declared.Instr.the-variants as I
-use Rattle.isa.specs.Fields.{fieldsOf, immI, immS, immB, immU, immJ, privateLoadOffset, privateStoreOffset}
+use Rattle.isa.specs.Fields.{fieldsOf, isMasked, immI, immS, immB, immU, immJ, privateLoadOffset, privateStoreOffset}
 use Rattle.isa.specs.Number.{opAt}
 use Rattle.isa.specs.Kinds.{condOf, loadOpOf, storeOpOf, laneStoreOpOf, csrOpOf, anyCsrWord, sourceIn, laneOpWord, vectorKinds, opLimit, rowOf}
 use Rattle.isa.specs.Scalar.{csrAs, csrImmAs}
@@ -140,9 +140,9 @@ module _ (k w : ℕ) where
   unfolding rowOf
   vmove-sx-is e er ea = rw (e, er, ea)
 
-  pub vid-is : {r : VReg} → k ≡ 48 → r ≡ vdIn w → wideOf k w ≡ I.Vid r
+  pub vid-is : {t : Bool} {r : VReg} → k ≡ 48 → t ≡ isMasked (fieldsOf w) → r ≡ vdIn w → wideOf k w ≡ I.Vid t r
   unfolding rowOf
-  vid-is e er = rw (e, er)
+  vid-is e et er = rw (e, et, er)
 
   pub regext-is : {n : ℕ} → k ≡ 50 → n ≡ immI (fieldsOf w) → wideOf k w ≡ I.RegExt n
   unfolding rowOf
@@ -157,6 +157,12 @@ module _ (k w : ℕ) where
       → wideOf k w ≡ I.VMove r s
   unfolding rowOf
   vmove-is e er es = rw (e, er, es)
+
+  pub vmerge-is :
+      {r b : VReg} {s : Source} → k ≡ 52 → r ≡ vdIn w → b ≡ vs2In w → s ≡ onSource (numbersIn w) (sourceIn (fieldsOf w))
+      → wideOf k w ≡ I.VMerge r b s
+  unfolding rowOf
+  vmerge-is e er eb es = rw (e, er, eb, es)
 
   pub vector-is : vectorKinds ≤ k → wideOf k w ≡ onFields (numbersIn w) (laneOpWord (opAt (k % opLimit)) (fieldsOf w))
   unfolding rowOf

@@ -1,5 +1,7 @@
 -- A word's fields, and the immediates that they hold.
 use Prim.Native.Nat.{ℕ, _+_, _*_, _/_, _%_, _^_}
+use mathlib.Core.Bool.{Bool}
+use lib.Dec.{eqb}
 use Rattle.isa.specs.declared.XReg.{XReg}
 use Rattle.isa.specs.declared.VReg.{VReg}
 
@@ -28,6 +30,10 @@ funct6 c = c .funct7 / 2
 
 abbrev pub vm : Fields → ℕ
 vm c = c .funct7 % 2
+
+-- a vector word that is masked
+abbrev pub isMasked : Fields → Bool
+isMasked c = eqb (vm c) 0
 
 abbrev pub x : ℕ → XReg
 x n = record { 0 = n }

@@ -1,8 +1,8 @@
 -- The range of each field of an instruction. Every decoded instruction is in these ranges (proofs/Decoded.antt), so that its word can be made again from it (crate encoding). What the code may assume of a field that it reads is in the contracts of src/fields.rt.
 use Prim.Native.Nat.{ℕ, _%_, _^_, _<_}
 use mathlib.Core.List.{List, [], _∷_, _++_}
-use mathlib.Core.Bool.{Bool, true, false, cond, _&&_, _||_}
-use lib.Dec.{T, eqb, ltb}
+use mathlib.Core.Bool.{Bool, true, false, cond, _&&_}
+use lib.Dec.{T, ltb}
 use Rattle.answer.specs.Rows.{Row, _⇒_}
 use Rattle.word.specs.declared.Op.{Op}
 use Rattle.isa.specs.declared.XReg.{XReg}
@@ -16,17 +16,13 @@ use Rattle.isa.specs.declared.Space.the-variants.{Plain, Private}
 use Rattle.isa.specs.Bounds.{fieldLimit}
 use Rattle.isa.specs.Scalar.{immediates, leftShifts, rightShifts, base, multiplies, alternates}
 use Rattle.isa.specs.Vector.{OpForms, has, vectorTable, multiplyTable}
-use Rattle.isa.specs.Number.{number}
+use Rattle.isa.specs.Number.{isIn}
 
 -- a number that stays under a bound, or an op that a table has
 infix 68 _under_ _listed_
 pub data Range : Type 0 where
   _under_ : ℕ → ℕ → Range
   _listed_ : Op → List (Row Op) → Range
-
-abbrev pub isIn : Op → List (Row Op) → Bool
-isIn o [] = false
-isIn o (r ∷ rs) = eqb (number o) (number (r .is)) || isIn o rs
 
 abbrev pub xreg : XReg → Range
 xreg r = r .0 under fieldLimit
@@ -91,9 +87,10 @@ rangesOf (I.Csr o d a n) = xreg d ∷ xreg a ∷ n under 2 ^ 12 ∷ []
 rangesOf (I.CsrImm o d a n) = xreg d ∷ a under fieldLimit ∷ n under 2 ^ 12 ∷ []
 rangesOf (I.Vector o a) = vreg (a .vd) ∷ vreg (a .vs2) ∷ fieldOf (a .src) under sourceLimit (a .src) ∷ o listed vectorOps (a .src) ∷ []
 rangesOf (I.VMove d s) = vreg d ∷ fieldOf s under sourceLimit s ∷ []
+rangesOf (I.VMerge d b s) = vreg d ∷ vreg b ∷ fieldOf s under sourceLimit s ∷ []
 rangesOf (I.VMoveXS d b) = xreg d ∷ vreg b ∷ []
 rangesOf (I.VMoveSX d a) = vreg d ∷ xreg a ∷ []
-rangesOf (I.Vid d) = vreg d ∷ []
+rangesOf (I.Vid t d) = vreg d ∷ []
 rangesOf (I.VBranch o a b n) = vreg a ∷ vreg b ∷ n under 2 ^ 13 ∷ even n ∷ []
 rangesOf I.Join = []
 rangesOf (I.SetRpc d a n) = xreg d ∷ xreg a ∷ n under 2 ^ 12 ∷ []

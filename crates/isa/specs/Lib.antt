@@ -6,6 +6,7 @@ pub mod Vector
 pub mod Ventus
 pub mod Decode
 pub mod Number
+pub mod Masked
 pub mod Kinds
 pub mod Fits
 pub mod Prefix

@@ -83,11 +83,12 @@ onFields f (I.OpReg o r a b) = I.OpReg o (f .xd r) (f .x1 a) (f .x2 b)
 onFields f (I.Fence r a n) = I.Fence r a n
 onFields f (I.Csr o r a n) = I.Csr o (f .xd r) (f .x1 a) n
 onFields f (I.CsrImm o r i n) = I.CsrImm o (f .xd r) i n
-onFields f (I.Vector o a) = I.Vector o (record { vd = f .vd (a .vd); vs2 = f .v2 (a .vs2); src = onSource f (a .src) })
+onFields f (I.Vector o a) = I.Vector o (record { vd = f .vd (a .vd); vs2 = f .v2 (a .vs2); src = onSource f (a .src); masked = a .masked })
 onFields f (I.VMove r s) = I.VMove (f .vd r) (onSource f s)
+onFields f (I.VMerge r b s) = I.VMerge (f .vd r) (f .v2 b) (onSource f s)
 onFields f (I.VMoveXS r b) = I.VMoveXS (f .xd r) (f .v2 b)
 onFields f (I.VMoveSX r a) = I.VMoveSX (f .vd r) (f .x1 a)
-onFields f (I.Vid r) = I.Vid (f .vd r)
+onFields f (I.Vid t r) = I.Vid t (f .vd r)
 onFields f (I.VBranch o a b n) = I.VBranch o (f .v1 a) (f .v2 b) n
 onFields f I.Join = I.Join
 onFields f (I.SetRpc r a n) = I.SetRpc (f .xd r) (f .x1 a) n
@@ -128,9 +129,10 @@ takesOf (I.Csr o r a n) = regExtAlone (r ∷ a ∷ [])
 takesOf (I.CsrImm o r i n) = regExtAlone (r ∷ [])
 takesOf (I.Vector o a) = takesBy (a .src)
 takesOf (I.VMove r s) = takesBy s
+takesOf (I.VMerge r b s) = takesBy s
 takesOf (I.VMoveXS r b) = regExtAlone (r ∷ [])
 takesOf (I.VMoveSX r a) = regExtAlone (a ∷ [])
-takesOf (I.Vid r) = regExtAlone []
+takesOf (I.Vid t r) = regExtAlone []
 takesOf (I.VBranch o a b n) = neither
 takesOf I.Join = neither
 takesOf (I.SetRpc r a n) = regExtAlone (r ∷ a ∷ [])

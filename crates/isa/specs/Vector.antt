@@ -8,7 +8,7 @@ use Rattle.isa.specs.declared.Source.{Source}
 use Rattle.isa.specs.declared.Source.the-variants as From
 use Rattle.isa.specs.declared.Instr.{Instr}
 use Rattle.isa.specs.declared.Instr.the-variants as I
-use Rattle.isa.specs.Fields.{Fields, x, v, funct6, vm}
+use Rattle.isa.specs.Fields.{Fields, x, v, funct6, vm, isMasked}
 use Rattle.isa.specs.Table.{Words, wordAt, asWords, fixed}
 
 -- an op, and the forms that it has
@@ -54,11 +54,11 @@ has (From.Long n) f = false
 
 abbrev pub vectorAs : Source → OpForms → Fields → Instr
 vectorAs s f c =
-    cond (has s f) (I.Vector (f .op) (record { vd = v (c .rd); vs2 = v (c .rs2); src = s })) I.Refused
+    cond (has s f) (I.Vector (f .op) (record { vd = v (c .rd); vs2 = v (c .rs2); src = s; masked = isMasked c })) I.Refused
 
--- vmv.v (VV VX VI), vs2 = 0
+-- vmv.v (VV VX VI), vs2 = 0; masked, it is vmerge (VVM VXM VIM)
 abbrev pub moveWord : Source → Fields → Instr
-moveWord s c = fixed (c .rs2) 0 (I.VMove (v (c .rd)) s)
+moveWord s c = cond (isMasked c) (I.VMerge (v (c .rd)) (v (c .rs2)) s) (fixed (c .rs2) 0 (I.VMove (v (c .rd)) s))
 
 abbrev pub moves : Source → Words
 moves s = 0b010111 ⇒ moveWord s ∷ []
@@ -66,15 +66,15 @@ moves s = 0b010111 ⇒ moveWord s ∷ []
 unfoldable pub plainWord : Source → Fields → Instr
 plainWord s c = wordAt c (funct6 c) (moves s ++ asWords (vectorAs s) vectorTable)
 
--- vmv.x.s (VV, vs1 0), vmv.s.x (VX, vs2 0), vid.v (VV, vs2 0, vs1 10001)
+-- vmv.x.s (VV, vs1 0) and vmv.s.x (VX, vs2 0), vm = 1; vid.v (VV, vs2 0, vs1 10001)
 abbrev pub moveXSWord : Fields → Instr
-moveXSWord c = fixed (c .rs1) 0 (I.VMoveXS (x (c .rd)) (v (c .rs2)))
+moveXSWord c = fixed (vm c) 1 (fixed (c .rs1) 0 (I.VMoveXS (x (c .rd)) (v (c .rs2))))
 
 abbrev pub moveSXWord : Fields → Instr
-moveSXWord c = fixed (c .rs2) 0 (I.VMoveSX (v (c .rd)) (x (c .rs1)))
+moveSXWord c = fixed (vm c) 1 (fixed (c .rs2) 0 (I.VMoveSX (v (c .rd)) (x (c .rs1))))
 
 abbrev pub vidWord : Fields → Instr
-vidWord c = fixed (c .rs2) 0 (fixed (c .rs1) 0b10001 (I.Vid (v (c .rd))))
+vidWord c = fixed (c .rs2) 0 (fixed (c .rs1) 0b10001 (I.Vid (isMasked c) (v (c .rd))))
 
 abbrev pub movesM : Source → Words
 movesM (From.V r) = 0b010000 ⇒ moveXSWord ∷ 0b010100 ⇒ vidWord ∷ []
@@ -101,9 +101,5 @@ operands =
     0b000 ⇒ (λ c. plainWord (fromV c) c) ∷ 0b011 ⇒ (λ c. plainWord (fromI c) c) ∷ 0b100 ⇒ (λ c. plainWord (fromX c) c)
     ∷ 0b010 ⇒ (λ c. multiplyWord (fromV c) c) ∷ 0b110 ⇒ (λ c. multiplyWord (fromX c) c) ∷ []
 
-unfoldable pub operandsWord : Fields → Instr
-operandsWord c = wordAt c (c .funct3) operands
-
--- vm = 1
 unfoldable pub vectorWord : Fields → Instr
-vectorWord c = fixed (vm c) 1 (operandsWord c)
+vectorWord c = wordAt c (c .funct3) operands

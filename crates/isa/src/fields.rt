@@ -3,7 +3,7 @@
 ghost use mathlib.Core.Path.{_≡_};
 ghost use Prim.Native.Nat.{_<_, _^_};
 ghost use Rattle.isa.specs.Bounds.{scalarRegisters, vectorRegisters, fieldLimit};
-ghost use Rattle.isa.specs.Fields.{fieldsOf, immI, immS, immB, immU, immJ};
+ghost use Rattle.isa.specs.Fields.{fieldsOf, isMasked, immI, immS, immB, immU, immJ};
 ghost use Rattle.isa.specs.Fields.{privateLoadOffset, privateStoreOffset};
 ghost use Rattle.isa.specs.Number.{opAt};
 ghost use Rattle.isa.specs.Kinds.{condOf, loadOpOf, storeOpOf, laneStoreOpOf, csrOpOf, sourceIn};
@@ -43,6 +43,13 @@ pub fn funct3(w: u64) -> u32
     ensures { λ r. ⌜ (r ≡ fieldsOf w .funct3) × (r < 2 ^ 3) ⌝ }
 {
     (w / 4096 % 8) as u32
+}
+
+// A vector word that is masked: vm is 0.
+pub fn masked(w: u64) -> bool
+    ensures { λ r. ⌜ r ≡ isMasked (fieldsOf w) ⌝ }
+{
+    w / 33554432 % 128 % 2 == 0
 }
 
 // ---- a field of five bits as it is

@@ -104,6 +104,8 @@ pub const REGEXT: u32 = 50;
 
 pub const REGEXTI: u32 = 51;
 
+pub const VMERGE: u32 = 52;
+
 // From VECTOR on: VECTOR + the op's number, which is under OPS, whatever the last operand is.
 pub const VECTOR: u32 = 128;
 

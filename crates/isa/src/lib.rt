@@ -1,6 +1,7 @@
 // The instructions: registers, op enums, and one variant for each operand format.
 pub mod fields;
 pub mod kinds;
+pub mod masked;
 
 use word::Cond;
 use word::Op;
@@ -38,10 +39,12 @@ pub enum Source {
     Long(u16),
 }
 
+// A masked word (vm = 0) writes only where v0's word has bit 0 set.
 pub struct VecArgs {
     pub vd: VReg,
     pub vs2: VReg,
     pub src: Source,
+    pub masked: bool,
 }
 
 // A pending prefix: its kind, 0 where none is pending, 1 REGEXT, 2 REGEXTI, and its 12 bits.
@@ -57,7 +60,8 @@ pub enum Space {
     Private,
 }
 
-// Destination first, then rs1, then rs2 (a store: its base, then what it stores), then the immediate as the raw field.
+// Destination first, then rs1, then rs2 (a store: its base, then what it stores), then the immediate as the raw field. A vector word's vs2 comes
+// before its last operand; vid.v says first whether it is masked.
 pub enum Instr {
     Refused,
     Lui(XReg, u32),
@@ -74,9 +78,10 @@ pub enum Instr {
     CsrImm(CsrOp, XReg, u8, u16),
     Vector(Op, VecArgs),
     VMove(VReg, Source),
+    VMerge(VReg, VReg, Source),
     VMoveXS(XReg, VReg),
     VMoveSX(VReg, XReg),
-    Vid(VReg),
+    Vid(bool, VReg),
     VBranch(Cond, VReg, VReg, u16),
     Join,
     SetRpc(XReg, XReg, u16),

@@ -19,7 +19,8 @@ use Rattle.isa.specs.Wide.{vdIn, vs1In, vs2In}
 use Rattle.isa.specs.Kinds.{loadOpOf, laneStoreOpOf}
 use Rattle.lanes.specs.declared.Lane.{Lane}
 use Rattle.lanes.specs.Mask.{bit}
-use Rattle.lanes.specs.Lanes.{lanesMax, laneOf, writeLanes}
+use Rattle.lanes.specs.Lanes.{lanesMax, laneOf, writeLanes, maskOf}
+use Rattle.lanes.proofs.MaskLaws.{mask-lt, each-mask}
 use Rattle.lanes.specs.Rows.{RowOf, at}
 use Rattle.memory.specs.declared.Private.{Private}
 use Rattle.memory.specs.Address.{laneAddress}
@@ -49,6 +50,20 @@ split-test e e' p p' t a b h = rw (← a, ← b) h
 -- the code counts n threads: the mask's lanes are among them
 pub lanes-fit : {n mask : ℕ} {g v : List ℕ} → LanesAt mask g v → n ≡ fixedIn g .numt → (n ≤ lanesMax) × (mask < 2 ^ n)
 lanes-fit r e = (omega (arith, e, r .fixed .lanes .1), rw e (r .below))
+
+-- a lane writer that was given the mask of the lanes that `on` picks writes those lanes
+pub by-mask : (on : Lane → Bool) (n n' m : ℕ) (d d' : VReg) (f : Lane → ℕ) (v : List ℕ) → n ≡ n' → m ≡ maskOf n' on → d ≡ d' → writeLanes n (bit m) d f v ≡ writeLanes n' on d' f v
+by-mask on n n' m d d' f v p q r = rw (p, q, r) (each-mask on _ v n')
+
+pub mask-fits : (on : Lane → Bool) (n n' m : ℕ) → n ≡ n' → m ≡ maskOf n' on → m < 2 ^ n
+mask-fits on n n' m p q = rw (p, q) (mask-lt on n')
+
+-- the one row of a masked word
+pub mask-refuses : (t : Bool) → t ≡ true → first (6 ⇒ t ∷ []) ≡ 6
+mask-refuses t e = rw e
+
+pub mask-passes : (t : Bool) → t ≡ false → first (6 ⇒ t ∷ []) ≡ 0
+mask-passes t e = rw e
 
 -- ---- accesses
 

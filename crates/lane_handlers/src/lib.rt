@@ -7,6 +7,8 @@ use isa::Instr;
 use isa::Space;
 use isa::fields;
 use isa::kinds;
+use isa::masked::is_compare;
+use isa::masked::is_v0;
 use lanes::LANES;
 use lanes::Operand;
 use layout::DATABASE;
@@ -19,6 +21,7 @@ use layout::NUMT;
 use layout::PDS;
 use layout::SCALARS;
 use memory::Private;
+use word::Op;
 ghost use mathlib.Core.Path.{_≡_};
 ghost use mathlib.Core.Bool.{not, cond};
 ghost use mathlib.Core.List.{List, [], _∷_};
@@ -28,7 +31,8 @@ ghost use lib.Dec.{eqb};
 ghost use lib.ListN.{length};
 ghost use Rattle.answer.specs.Rows.{_⇒_, first};
 ghost use Rattle.word.specs.Word.{extendOf};
-ghost use Rattle.isa.specs.Fields.{fieldsOf, immB};
+ghost use Rattle.isa.specs.Fields.{fieldsOf, isMasked, immB};
+ghost use Rattle.isa.specs.Masked.{overMask};
 ghost use Rattle.isa.specs.Prefix.{onSource, onFields};
 ghost use Rattle.isa.specs.Wide.{isLong, longIn, numbersIn, xdIn, xs1In, vdIn, vs1In, vs2In};
 ghost use Rattle.isa.specs.Number.{opAt};
@@ -37,7 +41,7 @@ ghost use Rattle.isa.specs.Kinds.{sourceIn};
 ghost use Rattle.lanes.specs.Rows.{OperandOk, RowOf};
 ghost use Rattle.memory.specs.Memories.{Contents, contents, MemoriesOk};
 ghost use Rattle.memory.specs.Address.{offsetLimit};
-ghost use Rattle.lanes.specs.Lanes.{lanesMax, fileWords};
+ghost use Rattle.lanes.specs.Lanes.{lanesMax, fileWords, writtenLanes, maskOf};
 ghost use Rattle.warp.specs.Facts.{FixedOk};
 ghost use Rattle.layout.specs.Words.{flatCount, maskIn, depthIn, fixedIn, warpOf};
 ghost use Rattle.running.specs.Goes.{nextIn};
@@ -84,6 +88,27 @@ fn private(g: &[u32; FIXED]) -> Private
 
 // ---- lane by lane
 
+// A masked word, no compare, whose destination is v0.
+fn over_mask(op: Op, w: u64) -> bool
+    ensures { λ t. ⌜ t ≡ overMask (onFields (numbersIn w) (laneOpWord op (fieldsOf w))) ⌝ }
+{
+    if fields::masked(w) {
+        return is_v0(fields::vd(w)) & !is_compare(op);
+    }
+    false
+}
+
+// The lanes that a vector word writes: the active ones; of a masked word those whose word in v0 has bit 0 set.
+fn written(mask: u32, g: &[u32; FIXED], v: &[u32], w: u64) -> u32
+    requires { ⌜ LanesAt mask (now g) (now v) ⌝ }
+    ensures { λ r. ⌜ r ≡ maskOf (fixedIn (now (g .entry)) .numt) (writtenLanes (isMasked (fieldsOf w)) (now (v .entry)) mask) ⌝ }
+{
+    if fields::masked(w) {
+        return lane_masks::masked_lanes(v, mask, threads(g));
+    }
+    mask
+}
+
 // The operand is taken apart here: handed on as one value, it makes every scalar step a quarter slower (docs/SPEED.md).
 pub fn vector(
     h: &mut [u32; MOVING],
@@ -96,9 +121,12 @@ pub fn vector(
     requires { ⌜ Lanes (now g) (now h) (now v) ⌝ }
     ensures { λ c. ⌜ ((s : List ℕ) (d : Contents) → length s ≡ flatCount → Handles (execOf (onFields (numbersIn w) (laneOpWord (opAt (kind % opLimit)) (fieldsOf w)))) c (lists (now (g .entry)) (now (h .entry)) (now (x .entry)) s (now (v .entry)) d) (lists (now (g .entry)) (now (h .exit)) (now (x .entry)) s (now (v .exit)) d)) ⌝ }
 {
-    let b = operand(x, w);
     let op = fields::op_at(kind % kinds::OPS);
-    let mask = h[MASK];
+    if over_mask(op, w) {
+        return answer::UNKNOWN;
+    }
+    let mask = written(h[MASK], g, v, w);
+    let b = operand(x, w);
     let n = threads(g);
     let d = fields::vd(w);
     let a = fields::vs2(w);
@@ -127,6 +155,27 @@ pub fn vmove(
     answer::DONE
 }
 
+// vmerge, which is masked and yet writes every active lane.
+pub fn vmerge(
+    h: &mut [u32; MOVING],
+    g: &[u32; FIXED],
+    x: &[u32; SCALARS],
+    v: &mut [u32],
+    w: u64,
+) -> u32
+    requires { ⌜ Lanes (now g) (now h) (now v) ⌝ }
+    ensures { λ c. ⌜ ((s : List ℕ) (d : Contents) → length s ≡ flatCount → Handles (execOf (Instr.VMerge (vdIn w) (vs2In w) (onSource (numbersIn w) (sourceIn (fieldsOf w))))) c (lists (now (g .entry)) (now (h .entry)) (now (x .entry)) s (now (v .entry)) d) (lists (now (g .entry)) (now (h .exit)) (now (x .entry)) s (now (v .exit)) d)) ⌝ }
+{
+    let d = fields::vd(w);
+    if is_v0(d) {
+        return answer::UNKNOWN;
+    }
+    let b = operand(x, w);
+    lane_masks::merge_lanes(v, h[MASK], threads(g), d, fields::vs2(w), b);
+    running::next(h);
+    answer::DONE
+}
+
 // vmv.s.x, which acts as vmv.v.x.
 pub fn vmove_sx(
     h: &mut [u32; MOVING],
@@ -146,9 +195,14 @@ pub fn vmove_sx(
 
 pub fn vid(h: &mut [u32; MOVING], g: &[u32; FIXED], v: &mut [u32], w: u64) -> u32
     requires { ⌜ Lanes (now g) (now h) (now v) ⌝ }
-    ensures { λ c. ⌜ ((x s : List ℕ) (d : Contents) → length s ≡ flatCount → Handles (execOf (Instr.Vid (vdIn w))) c (lists (now (g .entry)) (now (h .entry)) x s (now (v .entry)) d) (lists (now (g .entry)) (now (h .exit)) x s (now (v .exit)) d)) ⌝ }
+    ensures { λ c. ⌜ ((x s : List ℕ) (d : Contents) → length s ≡ flatCount → Handles (execOf (Instr.Vid (isMasked (fieldsOf w)) (vdIn w))) c (lists (now (g .entry)) (now (h .entry)) x s (now (v .entry)) d) (lists (now (g .entry)) (now (h .exit)) x s (now (v .exit)) d)) ⌝ }
 {
-    lanes::id_lanes(v, h[MASK], threads(g), fields::vd(w));
+    let d = fields::vd(w);
+    if fields::masked(w) & is_v0(d) {
+        return answer::UNKNOWN;
+    }
+    let on = written(h[MASK], g, v, w);
+    lanes::id_lanes(v, on, threads(g), d);
     running::next(h);
     answer::DONE
 }

@@ -1,14 +1,14 @@
 // Loads and stores of lanes: the test of all their accesses, and then the accesses.
+use access::inside;
+use access::load_at;
+use access::load_one;
+use access::put_at;
+use access::put_one;
 use isa::LoadOp;
 use isa::StoreOp;
 use isa::VReg;
 use lanes::LANES;
 use lanes::Lane;
-use memory::inside;
-use memory::load_at;
-use memory::load_one;
-use memory::put_at;
-use memory::put_one;
 use memory::size;
 use memory::width;
 ghost use mathlib.Core.Path.{_≡_};

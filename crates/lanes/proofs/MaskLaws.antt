@@ -19,7 +19,7 @@ use Rattle.isa.specs.declared.VReg.{VReg}
 use Rattle.lanes.specs.declared.Lane.{Lane}
 use Rattle.lanes.specs.Mask.{lane, bitAt, bit}
 use Rattle.lanes.specs.Lanes.{stepIf, eachLane, maskOf, allBelow, allLanes, laneOf, wantsOf}
-use Rattle.lanes.proofs.Laws.{each-grows, each-same}
+use Rattle.lanes.proofs.Laws.{newest, each-grows, each-same}
 
 -- ---- lane l's digit
 pub bit-zero : (m : ℕ) → bitAt 0 m ≡ m % 2
@@ -122,6 +122,26 @@ masks-and p q (suc n) =
 
 pub and-bits : (p : Lane → Bool) (n m : ℕ) → m < 2 ^ n → bitAnd (maskOf n p) m ≡ maskOf n (λ l. bit m l && p l)
 and-bits p n m h = ap (bitAnd (maskOf n p)) (mask-self m n h) ∙ masks-and p (bit m) n
+
+-- masks are equal only where the tests agree in every lane
+pub mask-picks : (p q : Lane → Bool) (n : ℕ) → maskOf n p ≡ maskOf n q → (l : Lane) → l .0 < n → p l ≡ q l
+unfolding eachLane
+mask-picks p q zero e l h = absurd (omega arith)
+mask-picks p q (suc n) e l h = let top = newest-picked (p (lane n)) (q (lane n)) (maskOf n p) (maskOf n q) (mask-lt p n) (mask-lt q n) e in ⊎-elim (λ w. rw w (top .0)) (λ w. mask-picks p q n (top .1) l w) (newest h)
+  where
+    newest-picked : (s t : Bool) (x y : ℕ) → x < 2 ^ n → y < 2 ^ n → stepIf s (λ (m : ℕ). m + 2 ^ n) x ≡ stepIf t (λ (m : ℕ). m + 2 ^ n) y → (s ≡ t) × (x ≡ y)
+    newest-picked true true x y a b e = (refl, omega arith)
+    newest-picked true false x y a b e = absurd (omega arith)
+    newest-picked false true x y a b e = absurd (omega arith)
+    newest-picked false false x y a b e = (refl, e)
+
+-- the mask of the lanes that a test picks has them
+pub mask-bit : (on : Lane → Bool) (n : ℕ) (l : Lane) → l .0 < n → bit (maskOf n on) l ≡ on l
+mask-bit on n = mask-picks (bit (maskOf n on)) on n (sym (mask-self (maskOf n on) n (mask-lt on n)))
+
+-- so a fold by the mask is the fold by the test
+pub each-mask : {A : Type 0} (on : Lane → Bool) (step : Lane → A → A) (x : A) (n : ℕ) → eachLane n (bit (maskOf n on)) step x ≡ eachLane n on step x
+each-mask on step x n = each-same (bit (maskOf n on)) on step step x n (mask-bit on n) (λ l u h t. refl)
 
 -- a mask is 0 just where the test holds in no lane
 pub mask-zero : (q : Lane → Bool) (n : ℕ) → eqb (maskOf n q) 0 ≡ allLanes n (λ l. not (q l))

@@ -1,7 +1,7 @@
 -- The vector file and what is done in it lane by lane, each over n lanes.
-use mathlib.Core.Bool.{Bool, true, false, _&&_}
+use mathlib.Core.Bool.{Bool, true, false, cond, _&&_}
 use mathlib.Core.List.{List}
-use Prim.Native.Nat.{ℕ, zero, suc, _+_, _*_, _^_}
+use Prim.Native.Nat.{ℕ, zero, suc, _+_, _*_, _%_, _^_}
 use lib.Dec.{eqb}
 use lib.ListN.{getD, set}
 use Rattle.word.specs.Word.{applyOf, holdsOf}
@@ -9,6 +9,7 @@ use Rattle.word.specs.declared.Op.{Op}
 use Rattle.word.specs.declared.Cond.{Cond}
 use Rattle.isa.specs.declared.VReg.{VReg}
 use Rattle.isa.specs.Bounds.{vectorRegisters}
+use Rattle.isa.specs.Masked.{v0}
 use Rattle.lanes.specs.Mask.{lane, bit}
 use Rattle.lanes.specs.declared.Lane.{Lane}
 use Rattle.lanes.specs.declared.Operand.{Operand}
@@ -37,6 +38,22 @@ operandOf v (Word x) l = x
 -- what the operation gives in lane l
 abbrev pub opLane : Op → List ℕ → VReg → Operand → Lane → ℕ
 opLane op v a b l = applyOf op (laneOf v a l) (operandOf v b l)
+
+-- bit 0 is set; it is in lane l's word of v0
+abbrev pub isOdd : ℕ → Bool
+isOdd x = eqb (x % 2) 1
+
+abbrev pub inV0 : List ℕ → Lane → Bool
+inV0 v l = isOdd (laneOf v v0 l)
+
+-- the lanes of the mask m that a word writes: all; of a masked word those whose word in v0 has bit 0 set
+abbrev pub writtenLanes : Bool → List ℕ → ℕ → Lane → Bool
+writtenLanes false v m l = bit m l
+writtenLanes true v m l = bit m l && inV0 v l
+
+-- vmerge: the operand's word where v0's has bit 0 set, else register a's
+abbrev pub mergeLane : List ℕ → VReg → Operand → Lane → ℕ
+mergeLane v a b l = cond (inV0 v l) (operandOf v b l) (laneOf v a l)
 
 abbrev pub stepIf : {A : Type 0} → Bool → (A → A) → A → A
 stepIf true g x = g x

@@ -45,7 +45,7 @@ pub fn active(mask: u32, l: Lane) -> bool
     (mask >> (l.0 as u32)) % 2 == 1
 }
 
-fn choose(t: bool, x: u32, y: u32) -> u32
+pub fn choose(t: bool, x: u32, y: u32) -> u32
     ensures { λ r. ⌜ r ≡ cond t x y ⌝ }
 {
     if t { x } else { y }

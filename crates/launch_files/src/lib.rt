@@ -23,7 +23,7 @@ pub fn put_words(kernel: &[u8], words: &mut [u32])
     let n = kernel.len() / 4;
     let mut i = 0;
     while i < n {
-        words[i] = memory::word_at(kernel, 4 * i);
+        words[i] = access::word_at(kernel, 4 * i);
         i += 1;
     }
 }

@@ -16,10 +16,10 @@ use Rattle.isa.specs.declared.Source.the-variants as From
 use Rattle.isa.specs.declared.Instr.{Instr}
 use Rattle.isa.specs.declared.Instr.the-variants as I
 use Rattle.isa.specs.Bounds.{scalarRegisters}
-use Rattle.isa.specs.Fields.{Fields, x, funct6, vm}
+use Rattle.isa.specs.Fields.{Fields, x, funct6, vm, isMasked}
 use Rattle.isa.specs.Table.{on, wordAt, asWords, fixed}
 use Rattle.isa.specs.Scalar.{jumps, jalrWord, conditions, branchAs, branchWord, loads, loadAs, loadWord, stores, storeAs, storeWord, immediates, leftShifts, rightShifts, immediateAs, shiftAs, shiftWord, shifts, opImmWord, opAs, byFunct3, ops, opWord, fences, fenceWord, csrOps, csrImmediates, csrAs, csrImmAs, csrWord}
-use Rattle.isa.specs.Vector.{OpForms, vectorTable, multiplyTable, has, vectorAs, moves, plainWord, movesM, multiplyWord, fromV, fromX, fromI, operands, operandsWord, vectorWord}
+use Rattle.isa.specs.Vector.{OpForms, vectorTable, multiplyTable, has, vectorAs, moves, plainWord, movesM, multiplyWord, fromV, fromX, fromI, operands, vectorWord}
 use Rattle.isa.specs.Ventus.{vbranchAs, joinWord, joins, splitsWord, endPrgWord, barrierWord, stops, stopWord, prefixWord, warpWords, warpWord, vstores, accesses, vloadAs, vstoreAs, laneAccessWord, ploadAs, pstoreAs, privateWord}
 use Rattle.isa.specs.Prefix.{extOf, extIOf, digitsOf, onSource, Takes, takesBy, allowed}
 use Rattle.isa.proofs.Laws.{Rows, found, rows-append, every-row, rows-tested, fixed-at, NoneFrom, past}
@@ -169,6 +169,10 @@ module _ {p : Prefix} {e d a b : Bool} (h : Known p e d a b) (c : Fields) (s : S
   where-formed t true i z = z
   where-formed t false i z = none refl
 
+  either-says : (t f : Bool) (i j : Instr) → Tells p t i → Tells p t j → Tells p t (cond f i j)
+  either-says t true i j y z = y
+  either-says t false i j y z = z
+
   -- by the last operand
   module _ (t : Bool) (r : Source) (z : ok (takesBy (onSource (digitsOf p) r)) ≡ t) where
     formed-say : (rows : List (Row OpForms)) → T (every-row (λ f n. true) rows) → Rows (Tells p t) (on c) (funct6 c) (asWords (vectorAs r) rows)
@@ -178,7 +182,7 @@ module _ {p : Prefix} {e d a b : Bool} (h : Known p e d a b) (c : Fields) (s : S
     unfolding plainWord
     plain-says =
         found (Tells p t) (on c) I.Refused (funct6 c) (moves r ++ asWords (vectorAs r) vectorTable) (none refl)
-        (rows-append (Tells p t) (on c) (funct6 c) (moves r) (asWords (vectorAs r) vectorTable) ((λ q. fixed-says t (c .rs2) 0 _ (is z)), tt)
+        (rows-append (Tells p t) (on c) (funct6 c) (moves r) (asWords (vectorAs r) vectorTable) ((λ q. either-says t (isMasked c) _ _ (is z) (fixed-says t (c .rs2) 0 _ (is z))), tt)
         (formed-say vectorTable tt))
 
     multiply-says : Rows (Tells p t) (on c) (funct6 c) (movesM r) → Tells p t (multiplyWord r c)
@@ -188,11 +192,11 @@ module _ {p : Prefix} {e d a b : Bool} (h : Known p e d a b) (c : Fields) (s : S
         (rows-append (Tells p t) (on c) (funct6 c) (movesM r) (asWords (vectorAs r) multiplyTable) m (formed-say multiplyTable tt))
 
   multiply-x : Tells p a (multiplyWord (fromX c) c)
-  multiply-x = multiply-says a (fromX c) by-a ((λ q. fixed-says a (c .rs2) 0 _ (is by-a)), tt)
+  multiply-x = multiply-says a (fromX c) by-a ((λ q. fixed-says a (vm c) 1 _ (fixed-says a (c .rs2) 0 _ (is by-a))), tt)
 
   pub multiply-v-scalar : funct6 c ≡ 0b010000 → Tells p d (multiplyWord (fromV c) c)
   unfolding multiplyWord
-  multiply-v-scalar q = rw q (fixed-says d (c .rs1) 0 _ (is by-d))
+  multiply-v-scalar q = rw q (fixed-says d (vm c) 1 _ (fixed-says d (c .rs1) 0 _ (is by-d)))
 
   pub multiply-v : (funct6 c ≡ 0b010000 → ⊥) → Tells p e (multiplyWord (fromV c) c)
   multiply-v ne =
@@ -201,22 +205,18 @@ module _ {p : Prefix} {e d a b : Bool} (h : Known p e d a b) (c : Fields) (s : S
         ((λ q. fixed-says e (c .rs2) 0 _ (fixed-says e (c .rs1) 0b10001 _ (is no-scalar))), tt),
       )
 
-  -- by funct3, where vm is 1
+  -- by funct3
   module _ (t : Bool) where
-    operands-say : Tells p t (operandsWord c) → Tells p t (vectorWord c)
-    unfolding vectorWord
-    operands-say f = fixed-says t (vm c) 1 (operandsWord c) f
-
     operands-at : (k : ℕ) → c .funct3 ≡ k → Tells p t (wordAt c k operands) → Tells p t (vectorWord c)
-    unfolding operandsWord
-    operands-at k q f = operands-say (subst (λ (n : ℕ). Tells p t (wordAt c n operands)) (sym q) f)
+    unfolding vectorWord
+    operands-at k q f = subst (λ (n : ℕ). Tells p t (wordAt c n operands)) (sym q) f
 
     pub vector-mvv : c .funct3 ≡ 0b010 → Tells p t (multiplyWord (fromV c) c) → Tells p t (vectorWord c)
     vector-mvv q f = operands-at 0b010 q f
 
     pub vector-none : NoneFrom (Unit {0}) (c .funct3) operands → Tells p t (vectorWord c)
-    unfolding operandsWord
-    vector-none r = operands-say (none (sym (past (on c) I.Refused (c .funct3) operands [] r)))
+    unfolding vectorWord
+    vector-none r = none (sym (past (on c) I.Refused (c .funct3) operands [] r))
 
   pub vector-vv : c .funct3 ≡ 0b000 → Tells p e (vectorWord c)
   vector-vv q = operands-at e 0b000 q (plain-says e (fromV c) no-scalar)

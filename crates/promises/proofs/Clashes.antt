@@ -112,9 +112,10 @@ module _ (m : State) where
   only (I.CsrImm o r i n) e = none (I.CsrImm o r i n) refl e
   only (I.Vector o a) e = none (I.Vector o a) refl e
   only (I.VMove r s) e = none (I.VMove r s) refl e
+  only (I.VMerge r b s) e = none (I.VMerge r b s) refl e
   only (I.VMoveXS r b) e = none (I.VMoveXS r b) refl e
   only (I.VMoveSX r a) e = none (I.VMoveSX r a) refl e
-  only (I.Vid r) e = none (I.Vid r) refl e
+  only (I.Vid t r) e = none (I.Vid t r) refl e
   only (I.VBranch c a b n) e = none (I.VBranch c a b n) refl e
   only I.Join e = none I.Join refl e
   only (I.SetRpc r a n) e = none (I.SetRpc r a n) refl e

@@ -139,9 +139,10 @@ module _ (t : List ℕ) where
     rows-more (I.CsrImm o r i n) h = refl
     rows-more (I.Vector o a) h = refl
     rows-more (I.VMove r s) h = refl
+    rows-more (I.VMerge r b s) h = refl
     rows-more (I.VMoveXS r b) h = refl
     rows-more (I.VMoveSX r a) h = refl
-    rows-more (I.Vid r) h = refl
+    rows-more (I.Vid t r) h = refl
     rows-more (I.VBranch c a b n) h = refl
     rows-more I.Join h = refl
     rows-more (I.SetRpc r a n) h = refl
@@ -169,9 +170,10 @@ module _ (t : List ℕ) where
     done-more (I.CsrImm o r i n) h = rw (csr (m .warp) l o n r (h .0) i i)
     done-more (I.Vector o a) h = rw (source (immediateOf o) (a .src) h)
     done-more (I.VMove r s) h = rw (source extendOf s h)
+    done-more (I.VMerge r b s) h = rw (source extendOf s h)
     done-more (I.VMoveXS r b) h = rw (put r (h .0))
     done-more (I.VMoveSX r a) h = rw (x-same a (h .0))
-    done-more (I.Vid r) h = refl
+    done-more (I.Vid t r) h = refl
     done-more (I.VBranch c a b n) h = rw (parts (elseOf c a b m) (pcBy 13 n m) (m .warp))
     done-more I.Join h = rw (joins (m .warp))
     done-more (I.SetRpc r a n) h = rw (setrpc (m .warp) l r a n (h .0) (h .1 .0))

@@ -59,6 +59,10 @@ active-mask m e l = below (ltb (l .0) (fixedOf m .numt)) refl
     below true t = refl
     below false t = sym (bit-above (w .mask) (w .fixed .numt) l small (omega (arith, ltb-false (l .0) (w .fixed .numt) t)))
 
+pub no-true : (t : Bool) → (t ≡ true → ⊥) → t ≡ false
+no-true true n = absurd (n refl)
+no-true false n = refl
+
 inactive-bit : (m : State) (l : Lane) → isActive m l ≡ false → l .0 < fixedOf m .numt → active m l ≡ false
 inactive-bit m l e h = rw (lt-ltb (l .0) (fixedOf m .numt) h) at e
 
@@ -75,12 +79,13 @@ module _ (k : List ℕ) (m : State) (u : List ℕ) (P : State → State → Type
       is-zero (stepOf k m .code) (λ z. subst₂ P (sym (step-taken k m z)) (sym (step-taken k other (sym c ∙ z))) (new z))
       (λ n. subst₂ P (sym (ap (λ (o : Outcome). o .left) (step-keeps k m n))) (sym (ap (λ (o : Outcome). o .left) (step-keeps k other (λ z. n (c ∙ z))))) old)
 
-by-step : (k : List ℕ) (m : State) (P : State → Type 0) → P m → (stepOf k m .code ≡ 0 → P (carriedOut (instrAt k m) (usedUp m))) → P (stepOf k m .left)
+pub by-step : (k : List ℕ) (m : State) (P : State → Type 0) → P m → (stepOf k m .code ≡ 0 → P (carriedOut (instrAt k m) (usedUp m))) → P (stepOf k m .left)
 by-step k m P = by-both k m (m .vector) (λ n o. P n) refl
 
 kept-by : (m : State) (u : List ℕ) (i : Instr) (a b : Effect) → fixedOf m .numt ≤ lanesMax → (l : Lane) → l .0 < lanesMax → isActive m l ≡ false → Twin m u i a b → SameLane l (effect a m .vector) (m .vector)
 kept-by m u i a b n l h o (moves e) r = refl
-kept-by m u i a b n l h o (gives {r = c} {f = f} w e) r = write-unwritten (active m) c f (m .vector) (fixedOf m .numt) n r l h (inactive-bit m l o)
+kept-by m u i a b n l h o (gives {on = on} {r = c} {f = f} w e) r =
+    write-unwritten on c f (m .vector) (fixedOf m .numt) n r l h (λ b. no-true (on l) (λ t. true≢false (sym (w l t .0) ∙ inactive-bit m l o b)))
 kept-by m u i a b n l h o (stores-both t e) r = refl
 
 pub kept : Kept
@@ -98,28 +103,28 @@ unwritten k m r = (
 -- ---- what a lane depends on
 
 -- a write of the same words to a lane that is the same
-write-alike : (n : ℕ) (on : Lane → Bool) (c : VReg) (f g : Lane → ℕ) (v u : List ℕ) (l : Lane) → n ≤ lanesMax → length v ≡ fileWords → length u ≡ fileWords → l .0 < lanesMax → f l ≡ g l → SameLane l v u
-    → SameLane l (writeLanes n on c f v) (writeLanes n on c g u)
-write-alike n on c f g v u l hn lv lu hl e s = in-file (ltb (c .0) vectorRegisters) refl
+write-alike : (n : ℕ) (on on′ : Lane → Bool) (c : VReg) (f g : Lane → ℕ) (v u : List ℕ) (l : Lane) → n ≤ lanesMax → length v ≡ fileWords → length u ≡ fileWords → l .0 < lanesMax → on l ≡ on′ l → f l ≡ g l → SameLane l v u
+    → SameLane l (writeLanes n on c f v) (writeLanes n on′ c g u)
+write-alike n on on′ c f g v u l hn lv lu hl o e s = in-file (ltb (c .0) vectorRegisters) refl
   where
     -- a register that the file does not have is not written
-    none : vectorRegisters ≤ c .0 → (h : Lane → ℕ) (x : List ℕ) → length x ≡ fileWords → writeLanes n on c h x ≡ x
-    none b h x lx = each-keeps on _ x (λ y. y ≡ x) refl n (λ m y p q z. set-out y (slotOf c m) (h m) (rw z (omega arith)) ∙ z)
+    none : vectorRegisters ≤ c .0 → (on : Lane → Bool) (h : Lane → ℕ) (x : List ℕ) → length x ≡ fileWords → writeLanes n on c h x ≡ x
+    none b on h x lx = each-keeps on _ x (λ y. y ≡ x) refl n (λ m y p q z. set-out y (slotOf c m) (h m) (rw z (omega arith)) ∙ z)
 
-    in-file : (t : Bool) → ltb (c .0) vectorRegisters ≡ t → SameLane l (writeLanes n on c f v) (writeLanes n on c g u)
-    in-file true t = write-only n hn c (ltb-true (c .0) vectorRegisters t) l hl v u lv lu s on on f g refl e
+    in-file : (t : Bool) → ltb (c .0) vectorRegisters ≡ t → SameLane l (writeLanes n on c f v) (writeLanes n on′ c g u)
+    in-file true t = write-only n hn c (ltb-true (c .0) vectorRegisters t) l hl v u lv lu s on on′ f g o e
     in-file false t =
         let b = ltb-false (c .0) vectorRegisters t in
-        subst₂ (SameLane l) (sym (none b f v lv)) (sym (none b g u lu)) s
+        subst₂ (SameLane l) (sym (none b on f v lv)) (sym (none b on′ g u lu)) s
 
 module _ (k : List ℕ) (m : State) (u : List ℕ) (long : length (m .vector) ≡ length u) where
   alone : (i : Instr) (a b : Effect) → stepOf k m .code ≡ 0 → (l : Lane) → l .0 < lanesMax → SameLane l (m .vector) u → Twin (usedUp m) u i a b
       → SameLane l (effect a (usedUp m) .vector) (effect b (withFile u (usedUp m)) .vector)
   alone i a b z l h s (moves e) = s
-  alone i a b z l h s (gives {r = c} {f = f} {g = g} w e) =
+  alone i a b z l h s (gives {on = on} {on′ = on′} {r = c} {f = f} {g = g} w e) =
       let t = step-clear k m z in
       let n = sizes (fixedOf m) k (m .vector) (m .bytes) (t .runs) .file-is in
-      write-alike (fixedOf m .numt) (active m) c f g (m .vector) u l (fixed-of (m .warp) (t .formed) .lanes .1) n (sym long ∙ n) h (e l s) s
+      write-alike (fixedOf m .numt) on on′ c f g (m .vector) u l (fixed-of (m .warp) (t .formed) .lanes .1) n (sym long ∙ n) h (e l s .0) (e l s .1) s
   alone i a b z l h s (stores-both t e) = s
 
   -- where the active lanes are the same, so are the answer, the warp and the memories

@@ -8,6 +8,7 @@ pub mod Twins
 pub mod Written
 pub mod Clashes
 pub mod Lanes
+pub mod Masked
 pub mod Private
 pub mod Prefixes
 pub mod Determined

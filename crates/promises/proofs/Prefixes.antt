@@ -32,7 +32,7 @@ use Rattle.definition.specs.Step.{carriedOut, stepOf}
 use Rattle.definition.proofs.Sound.{step-taken}
 use Rattle.definition.proofs.Tests.{step-rows}
 use Rattle.definition.proofs.Used.{tests-used}
-use Rattle.promises.specs.Prefixes.{IsPrefix, ext, extI, PrefixOnly, UsedUp, AsAlone, ZeroDigits, Repeats, clear, set, RepeatsIn, operation, move, ZeroDigitsI}
+use Rattle.promises.specs.Prefixes.{IsPrefix, ext, extI, PrefixOnly, UsedUp, AsAlone, ZeroDigits, Repeats, clear, set, RepeatsIn, operation, move, merge, ZeroDigitsI}
 
 -- ---- a prefix
 
@@ -96,9 +96,10 @@ module _ (m : State) where
   pending-kept (I.CsrImm o r i n) h = csr o n r _ _
   pending-kept (I.Vector o a) h = refl
   pending-kept (I.VMove r s) h = refl
+  pending-kept (I.VMerge r b s) h = refl
   pending-kept (I.VMoveXS r b) h = refl
   pending-kept (I.VMoveSX r a) h = refl
-  pending-kept (I.Vid r) h = refl
+  pending-kept (I.Vid t r) h = refl
   pending-kept (I.VBranch c a b n) h = vbranch _ _
   pending-kept I.Join h = joined
   pending-kept (I.SetRpc r a n) h = setrpc r a n
@@ -178,8 +179,9 @@ record Alike (i j : Instr) (m : State) : Type 0 where
 
 with-repeats : (n : ℕ) → n % 2 ^ 3 ≡ 0 → n / 2 ^ 3 % 2 ^ 3 ≡ 0 → {i : Instr} → RepeatsIn (n / 2 ^ 6) i → (m : State) → Alike i (prefixed (prefix regExtI n) i) m
 unfolding prefixed effectOf refusalsOf
-with-repeats n d b (operation o r c i t) m = rw (v-same (n % 2 ^ 3) r d, v-same (n / 2 ^ 3 % 2 ^ 3) c b) (record { rows = refl; done = rw (repeats-immediate o (n / 2 ^ 6) i t) })
+with-repeats n d b (operation o r c i u t) m = rw (v-same (n % 2 ^ 3) r d, v-same (n / 2 ^ 3 % 2 ^ 3) c b) (record { rows = refl; done = rw (repeats-immediate o (n / 2 ^ 6) i t) })
 with-repeats n d b (move r i t) m = rw (v-same (n % 2 ^ 3) r d) (record { rows = refl; done = rw (repeats-extended (n / 2 ^ 6) i t) })
+with-repeats n d b (merge r c i t) m = rw (v-same (n % 2 ^ 3) r d, v-same (n / 2 ^ 3 % 2 ^ 3) c b) (record { rows = refl; done = rw (repeats-extended (n / 2 ^ 6) i t) })
 
 pub zero-digits-i-same : ZeroDigitsI
 zero-digits-i-same k m n f p d b t =

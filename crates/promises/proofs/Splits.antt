@@ -125,9 +125,10 @@ module _ (s : State) where
   opener (I.CsrImm o r i n) = csr _ o n r _ _
   opener (I.Vector o a) = stays _ _ refl
   opener (I.VMove r a) = stays _ _ refl
+  opener (I.VMerge r b a) = stays _ _ refl
   opener (I.VMoveXS r b) = stays _ _ refl
   opener (I.VMoveSX r a) = stays _ _ refl
-  opener (I.Vid r) = stays _ _ refl
+  opener (I.Vid t r) = stays _ _ refl
   opener (I.VBranch c a b n) = vbranch c a b n
   opener I.Join = none (joined W)
   opener (I.SetRpc r a n) = setrpc _ r a n

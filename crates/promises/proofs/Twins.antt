@@ -1,9 +1,10 @@
 -- An instruction at two vector files: what its tests and its effect look at, lane by lane.
-use Prim.Native.Nat.{ℕ, _<_}
-use mathlib.Core.Path.{_≡_, refl, ap, ap₂, _∙_}
-use mathlib.Core.Bool.{Bool, true, not, _&&_}
+use Prim.Native.Nat.{ℕ, _%_, _<_}
+use mathlib.Core.Path.{_≡_, refl, sym, ap, ap₂, _∙_, subst}
+use mathlib.Core.Bool.{Bool, true, false, not, cond, _&&_, true≢false}
 use mathlib.Core.List.{List, [], _∷_, _++_}
 use lib.Dec.{eqb}
+use borrow.Author.Tests.{eqb-true, eqb-false, eq-eqb}
 use lib.ListN.{length, getD}
 use Rattle.answer.specs.Rows.{Row, _⇒_, first}
 use Rattle.word.specs.Word.{extendOf}
@@ -13,10 +14,11 @@ use Rattle.isa.specs.declared.Source.{Source}
 use Rattle.isa.specs.declared.Source.the-variants as From
 use Rattle.isa.specs.declared.Space.{Space}
 use Rattle.isa.specs.declared.VReg.{VReg}
-use Rattle.lanes.specs.Lanes.{laneOf, operandOf, opLane}
+use Rattle.isa.specs.Masked.{v0}
+use Rattle.lanes.specs.Lanes.{laneOf, operandOf, opLane, isOdd, inV0, mergeLane}
 use Rattle.lanes.specs.declared.Operand.{Operand}
 use Rattle.lanes.specs.declared.Lane.{Lane}
-use Rattle.lanes.proofs.Laws.{lane-only, operand-only, uniform-only, value-only}
+use Rattle.lanes.proofs.Laws.{both-left, both-right, lane-only, operand-only, uniform-only, value-only}
 use Rattle.lanes.proofs.MaskLaws.{wants-only}
 use Rattle.memory.specs.Memory.{sizeOf, widthOf}
 use Rattle.memory.specs.Memories.{Region, Contents, bytesAt}
@@ -25,12 +27,43 @@ use Rattle.memory.proofs.Laws.{address-only, word-only, inside-only, store-only
 use Rattle.warp.specs.declared.Warp.{Warp}
 use Rattle.warp.specs.Warp.{next, writeX}
 use Rattle.warp.specs.Splits.{parted}
-use Rattle.definition.specs.State.{State, fixedOf, active, pcBy, memoryOf, laneAt, privateIn, elseOf}
+use Rattle.definition.specs.State.{State, fixedOf, active, written, pcBy, memoryOf, laneAt, privateIn, elseOf}
 use Rattle.definition.specs.Refuse.{astray, accessTests, refusalsOf}
 use Rattle.definition.specs.Exec.{Effect, goes, writes, stores, effectOf, immediateOf, sourceOf, loaded}
 use Rattle.promises.specs.Lanes.{SameLane, withFile, addressIn}
-use Rattle.promises.specs.Written.{Becomes, Gives, operation, move, scalar, number, load}
+use Rattle.promises.specs.Masked.{Marked}
+use Rattle.promises.specs.Written.{Becomes, Gives, operation, move, mergeOperand, mergeOther, scalar, number, load}
 use Rattle.promises.proofs.Stores.{Apart, scalar-becomes, lanes-become}
+
+-- ---- the lanes that are written
+
+-- the test of bit 0, and the fact
+pub marked-true : (m : State) (l : Lane) → Marked m l → inV0 (m .vector) l ≡ true
+marked-true m l h = eq-eqb _ 1 h
+
+pub true-marked : (m : State) (l : Lane) → inV0 (m .vector) l ≡ true → Marked m l
+true-marked m l e = eqb-true _ 1 e
+
+module _ (m : State) (l : Lane) where
+  pub written-active : (t : Bool) → written t m l ≡ true → active m l ≡ true
+  written-active false e = e
+  written-active true e = both-left (active m l) (inV0 (m .vector) l) e
+
+  pub written-marked : (t : Bool) → written t m l ≡ true → t ≡ true → Marked m l
+  written-marked false e q = absurd (true≢false (sym q))
+  written-marked true e q = true-marked m l (both-right (active m l) (inV0 (m .vector) l) e)
+
+  pub marked-written : (t : Bool) → (t ≡ true → Marked m l) → active m l ≡ true → written t m l ≡ true
+  marked-written false h a = a
+  marked-written true h a = rw (a, marked-true m l (h refl))
+
+-- what vmerge gives a lane
+pub merged : (m : State) (l : Lane) (r b : VReg) (s : Source) → Gives m l (I.VMerge r b s) r (mergeLane (m .vector) b (sourceOf extendOf s m) l)
+merged m l r b s = by (inV0 (m .vector) l) refl
+  where
+    by : (t : Bool) → inV0 (m .vector) l ≡ t → Gives m l (I.VMerge r b s) r (cond t (operandOf (m .vector) (sourceOf extendOf s m) l) (laneOf (m .vector) b l))
+    by true e = mergeOperand r b s (true-marked m l e)
+    by false e = mergeOther r b s (eqb-false _ 1 e)
 
 module _ (m : State) (u : List ℕ) where
   -- the files are the same in every active lane
@@ -44,7 +77,8 @@ module _ (m : State) (u : List ℕ) where
   -- i's effect with the file of m, and with u
   pub data Twin (i : Instr) : Effect → Effect → Type 0 where
     moves : {a b : Warp} → (Same → a ≡ b) → Twin i (goes a) (goes b)
-    gives : {r : VReg} {f g : Lane → ℕ} → ((l : Lane) → Gives m l i r (f l)) → ((l : Lane) → SameLane l (m .vector) u → f l ≡ g l) → Twin i (writes (active m) r f) (writes (active m) r g)
+    gives : {on on′ : Lane → Bool} {r : VReg} {f g : Lane → ℕ} → ((l : Lane) → on l ≡ true → (active m l ≡ true) × Gives m l i r (f l))
+        → ((l : Lane) → SameLane l (m .vector) u → (on l ≡ on′ l) × (f l ≡ g l)) → Twin i (writes on r f) (writes on′ r g)
     stores-both : {d e : Contents} → EffectLeaves i d → (Same → d ≡ e) → Twin i (stores d) (stores e)
 
   -- and its rows
@@ -52,12 +86,20 @@ module _ (m : State) (u : List ℕ) where
     pub rows : Same → rs ≡ us
     pub twin : Twin i a b
 
-  -- an instruction that looks at no vector register; one with no row that writes lanes
+  -- an instruction that looks at no vector register; one whose rows look at none, and which writes the active lanes, or those of a masked word
   idle : {i : Instr} {rs : List (Row Bool)} {a : Warp} → Compared i rs rs (goes a) (goes a)
   idle = record { rows = λ s. refl; twin = moves (λ s. refl) }
 
-  fills : {i : Instr} {r : VReg} {f g : Lane → ℕ} → ((l : Lane) → Gives m l i r (f l)) → ((l : Lane) → SameLane l (m .vector) u → f l ≡ g l) → Compared i [] [] (writes (active m) r f) (writes (active m) r g)
-  fills w o = record { rows = λ s. refl; twin = gives w o }
+  fills : {i : Instr} {rs : List (Row Bool)} {r : VReg} {f g : Lane → ℕ} → ((l : Lane) → Gives m l i r (f l)) → ((l : Lane) → SameLane l (m .vector) u → f l ≡ g l) → Compared i rs rs (writes (active m) r f) (writes (active m) r g)
+  fills w o = record { rows = λ s. refl; twin = gives (λ l e. (e, w l)) (λ l s. (refl, o l s)) }
+
+  written-same : (t : Bool) (l : Lane) → SameLane l (m .vector) u → written t m l ≡ written t (withFile u m) l
+  written-same false l s = refl
+  written-same true l s = ap (λ (x : ℕ). active m l && isOdd x) (s v0)
+
+  fills-by : {i : Instr} {rs : List (Row Bool)} {r : VReg} {f g : Lane → ℕ} (t : Bool) → ((l : Lane) → (t ≡ true → Marked m l) → Gives m l i r (f l)) → ((l : Lane) → SameLane l (m .vector) u → f l ≡ g l)
+      → Compared i rs rs (writes (written t m) r f) (writes (written t (withFile u m)) r g)
+  fills-by t w o = record { rows = λ s. refl; twin = gives (λ l e. (written-active m l t e, w l (written-marked m l t e))) (λ l s. (written-same t l s, o l s)) }
 
   -- a scalar register or an immediate is the same with any file
   source-same : (f : ℕ → ℕ → ℕ) (e : Source) → sourceOf f e m ≡ sourceOf f e (withFile u m)
@@ -93,15 +135,18 @@ module _ (m : State) (u : List ℕ) where
   compared (I.Fence r a n) = idle
   compared (I.Csr o r a n) = idle
   compared (I.CsrImm o r i n) = idle
-  compared (I.Vector o a) = fills (λ l. operation o a) (λ l s. lane-only l (m .vector) u s o (a .vs2) (sourceOf (immediateOf o) (a .src) m) ∙ ap (λ (b : Operand). opLane o u (a .vs2) b l) (source-same (immediateOf o) (a .src)))
+  compared (I.Vector o a) = fills-by (a .masked) (λ l. operation o a) (λ l s. lane-only l (m .vector) u s o (a .vs2) (sourceOf (immediateOf o) (a .src) m) ∙ ap (λ (b : Operand). opLane o u (a .vs2) b l) (source-same (immediateOf o) (a .src)))
   compared (I.VMove r e) = fills (λ l. move r e) (λ l s. operand-only l (m .vector) u s (sourceOf extendOf e m) ∙ ap (λ (b : Operand). operandOf u b l) (source-same extendOf e))
+  compared (I.VMerge r b e) =
+      fills (λ l. merged m l r b e)
+      (λ l s. rw (s v0, s b, operand-only l (m .vector) u s (sourceOf extendOf e m) ∙ ap (λ (b : Operand). operandOf u b l) (source-same extendOf e)))
   compared (I.VMoveXS r b) =
       record {
         rows = λ s. ap (λ (t : Bool). 10 ⇒ not t ∷ []) (uniform-only (fixedOf m .numt) (active m) (laneOf (m .vector) b) (laneOf u b) (λ l h t. s l h t b));
         twin = moves (λ s. ap (λ (y : ℕ). next (writeX r y (m .warp))) (value-only (fixedOf m .numt) (active m) (laneOf (m .vector) b) (laneOf u b) (λ l h t. s l h t b)));
       }
   compared (I.VMoveSX r a) = fills (λ l. scalar r a) (λ l s. refl)
-  compared (I.Vid r) = fills (λ l. number r) (λ l s. refl)
+  compared (I.Vid t r) = fills-by t (λ l. number t r) (λ l s. refl)
   compared (I.VBranch c a b n) =
       let e : Same → elseOf c a b m ≡ elseOf c a b (withFile u m) = λ s. wants-only (m .warp .mask) (fixedOf m .numt) c a b (m .vector) u s in
       record {
@@ -114,7 +159,7 @@ module _ (m : State) (u : List ℕ) where
   compared (I.Barrier n) = idle
   compared (I.RegExt n) = idle
   compared (I.RegExtI n) = idle
-  compared (I.VLoad e k r a n) = record { rows = λ s. rows-same e a n (sizeOf k) s; twin = gives (λ l. load e k r a n) (λ l s. ap (λ (x : ℕ). loaded k x m) (at-same e a n l s)) }
+  compared (I.VLoad e k r a n) = record { rows = λ s. rows-same e a n (sizeOf k) s; twin = gives (λ l t. (t, load e k r a n)) (λ l s. (refl, ap (λ (x : ℕ). loaded k x m) (at-same e a n l s))) }
   compared (I.VStore e k a b n) =
       record {
         rows = λ s. ap₂ _++_ (rows-same e a n (widthOf k) s)

@@ -31,11 +31,13 @@ module _ (q : Prefix) (m : State) where
   touches-other (L.lane s k x y n l t h) = L.lane s k x y n l t h
 
   pub gives-other : {l : Lane} {i : Instr} {r : VReg} {y : ℕ} → Gives m l i r y → Gives other l i r y
-  gives-other {l = l} (W.operation o a) =
-      rw (source-other (immediateOf o) (a .src)) (W.operation o a)
+  gives-other {l = l} (W.operation o a c) =
+      rw (source-other (immediateOf o) (a .src)) (W.operation o a c)
   gives-other {l = l} (W.move r s) = rw (source-other extendOf s) (W.move r s)
+  gives-other {l = l} (W.mergeOperand r b s c) = rw (source-other extendOf s) (W.mergeOperand r b s c)
+  gives-other (W.mergeOther r b s c) = W.mergeOther r b s c
   gives-other (W.scalar r a) = W.scalar r a
-  gives-other (W.number r) = W.number r
+  gives-other (W.number t r c) = W.number t r c
   gives-other (W.load s k r a n) = W.load s k r a n
 
 -- back to m, whose prefix is p

@@ -17,8 +17,8 @@ use Rattle.isa.specs.declared.VReg.{VReg}
 use Rattle.lanes.specs.declared.Lane.{Lane}
 use Rattle.isa.specs.Bounds.{vectorRegisters}
 use Rattle.memory.specs.Memories.{Region, bytesAt}
-use Rattle.lanes.specs.Lanes.{lanesMax, fileWords, laneOf, valueOf, uniformOf}
-use Rattle.lanes.proofs.Laws.{write-at, write-apart, uniform-at, uniform-when}
+use Rattle.lanes.specs.Lanes.{lanesMax, fileWords, laneOf, writeLanes, valueOf, uniformOf}
+use Rattle.lanes.proofs.Laws.{write-at, write-apart, write-unwritten, uniform-at, uniform-when}
 use Rattle.warp.specs.declared.Warp.{Warp}
 use Rattle.warp.specs.Warp.{readX}
 use Rattle.warp.specs.WellFormed.{fixedOkOf, wellFormedOf}
@@ -38,7 +38,7 @@ use Rattle.promises.specs.Written as W
 use Rattle.promises.specs.Written.{Becomes, stays, Gives, Written, LaneWords, OneValue, MoveShares}
 use Rattle.promises.proofs.Stores.{Apart, active-of, active-below}
 use Rattle.promises.proofs.Used.{becomes-back, gives-other, gives-back}
-use Rattle.promises.proofs.Twins.{Twin, moves, gives, stores-both, compared}
+use Rattle.promises.proofs.Twins.{marked-true, marked-written, Twin, moves, gives, stores-both, compared}
 
 -- ---- each byte
 
@@ -72,25 +72,32 @@ pub fixed-of : (w : Warp) → wellFormedOf w ≡ true → FixedOk (w .fixed)
 unfolding wellFormedOf
 fixed-of w e = fixed-ok (w .fixed) (both (fixedOkOf (w .fixed)) _ e .0)
 
--- the effect of an instruction that gives register r words: f l is lane l's
+-- the effect of an instruction that gives register r words in the lanes that `on` picks, lane l among them where it is active
 record Filled (m : State) (l : Lane) (i : Instr) (r : VReg) (y : ℕ) : Type 0 where
+  on : Lane → Bool
   words : Lane → ℕ
-  is : effectOf i m ≡ writes (active m) r words
+  is : effectOf i m ≡ writes on r words
+  picks : active m l ≡ true → on l ≡ true
   at : words l ≡ y
 
 filled : (m : State) (l : Lane) (i : Instr) (r : VReg) (y : ℕ) → Gives m l i r y → Filled m l i r y
 unfolding effectOf
-filled m l i r y (W.operation o a) = record { words = _; is = refl; at = refl }
-filled m l i r y (W.move c s) = record { words = _; is = refl; at = refl }
-filled m l i r y (W.scalar c a) = record { words = _; is = refl; at = refl }
-filled m l i r y (W.number c) = record { words = _; is = refl; at = refl }
-filled m l i r y (W.load s k c a n) = record { words = _; is = refl; at = refl }
+filled m l i r y (W.operation o a c) = record { on = _; words = _; is = refl; picks = marked-written m l (a .masked) c; at = refl }
+filled m l i r y (W.move c s) = record { on = _; words = _; is = refl; picks = λ a. a; at = refl }
+filled m l i r y (W.mergeOperand c b s h) = record { on = _; words = _; is = refl; picks = λ a. a; at = rw (marked-true m l h) }
+filled m l i r y (W.mergeOther c b s h) = record { on = _; words = _; is = refl; picks = λ a. a; at = rw (ne-eqb _ 1 h) }
+filled m l i r y (W.scalar c a) = record { on = _; words = _; is = refl; picks = λ a. a; at = refl }
+filled m l i r y (W.number t c h) = record { on = _; words = _; is = refl; picks = marked-written m l t h; at = refl }
+filled m l i r y (W.load s k c a n) = record { on = _; words = _; is = refl; picks = λ a. a; at = refl }
 
 others-by : (m : State) (u : List ℕ) (i : Instr) (a b : Effect) → fixedOf m .numt ≤ lanesMax → (l : Lane) → l .0 < lanesMax → Twin m u i a b
     → (r : VReg) → ((y : ℕ) → Gives m l i r y → ⊥) → laneOf (effect a m .vector) r l ≡ laneOf (m .vector) r l
 others-by m u i a b n l h (moves e) r o = refl
-others-by m u i a b n l h (gives {r = c} {f = f} w e) r o =
-    write-apart (active m) c f (m .vector) (fixedOf m .numt) n r l h (λ q. o (f l) (subst (λ (x : ℕ). Gives m l i (record { 0 = x }) (f l)) (sym q) (w l)))
+others-by m u i a b n l h (gives {on = on} {r = c} {f = f} w e) r o = by (on l) refl
+  where
+    by : (t : Bool) → on l ≡ t → laneOf (writeLanes (fixedOf m .numt) on c f (m .vector)) r l ≡ laneOf (m .vector) r l
+    by true t = write-apart on c f (m .vector) (fixedOf m .numt) n r l h (λ q. o (f l) (subst (λ (x : ℕ). Gives m l i (record { 0 = x }) (f l)) (sym q) (w l t .1)))
+    by false t = write-unwritten on c f (m .vector) (fixedOf m .numt) n r l h (λ b. t)
 others-by m u i a b n l h (stores-both t e) r o = refl
 
 pub lane-words : LaneWords
@@ -108,7 +115,7 @@ lane-words k m z l a = record { given = given; others = λ r o. rw (step-taken k
     given : (r : VReg) (y : ℕ) → r .0 < vectorRegisters → Gives m l (instrAt k m) r y → laneOf (stepOf k m .left .vector) r l ≡ y
     given r y b g =
         let f = filled (usedUp m) l (instrAt k m) r y (gives-other noPrefix m g) in
-        rw (step-taken k m z, f .is) (write-at (active m) r (f .words) (m .vector) (fixedOf m .numt) l (active-below m l a .0) lanes (active-below m l a .1) (omega (arith, long, below)) ∙ f .at)
+        rw (step-taken k m z, f .is) (write-at (f .on) r (f .words) (m .vector) (fixedOf m .numt) l (active-below m l a .0) lanes (f .picks (active-below m l a .1)) (omega (arith, long, below)) ∙ f .at)
 
 -- ---- one value
 

@@ -1,6 +1,7 @@
 pub mod Reached
 pub mod Splits
 pub mod Lanes
+pub mod Masked
 pub mod Written
 pub mod Clashes
 pub mod Private

@@ -1,7 +1,7 @@
 -- The prefixes REGEXT and REGEXTI.
 use Prim.Native.Nat.{ℕ, _-_, _/_, _%_, _^_, _<_, _≤_}
 use mathlib.Core.Path.{_≡_}
-use mathlib.Core.Bool.{true}
+use mathlib.Core.Bool.{Bool, true}
 use mathlib.Core.List.{List}
 use Rattle.answer.specs.Rows.{first}
 use Rattle.word.specs.declared.Op.{Op}
@@ -55,8 +55,9 @@ pub data Repeats (top i : ℕ) : Type 0 where
 
 -- a VI form whose bit 4 they repeat
 pub data RepeatsIn (top : ℕ) : Instr → Type 0 where
-  operation : (o : Op) (d b : VReg) (i : ℕ) → Repeats top i → RepeatsIn top (I.Vector o (record { vd = d; vs2 = b; src = From.I i }))
+  operation : (o : Op) (d b : VReg) (i : ℕ) (t : Bool) → Repeats top i → RepeatsIn top (I.Vector o (record { vd = d; vs2 = b; src = From.I i; masked = t }))
   move : (d : VReg) (i : ℕ) → Repeats top i → RepeatsIn top (I.VMove d (From.I i))
+  merge : (d b : VReg) (i : ℕ) → Repeats top i → RepeatsIn top (I.VMerge d b (From.I i))
 
 -- Nor does a REGEXTI whose digits are 0 and whose immediate bits repeat the word's bit 4 change anything of a VI form.
 abbrev pub ZeroDigitsI : Type 0

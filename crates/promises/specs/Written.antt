@@ -1,7 +1,7 @@
 -- What a step that was taken leaves: each byte of the memories, each word of an active lane, and what 'one value' of the active lanes is.
 use Prim.Native.Nat.{ℕ, _<_}
 use mathlib.Core.Path.{_≡_}
-use mathlib.Core.Bool.{true, false}
+use mathlib.Core.Bool.{Bool, true, false}
 use mathlib.Core.List.{List}
 use lib.ListN.{length, getD}
 use Rattle.answer.specs.Rows.{first, Iff}
@@ -27,6 +27,7 @@ use Rattle.definition.specs.Refuse.{mixed, stepTests}
 use Rattle.definition.specs.Exec.{immediateOf, sourceOf}
 use Rattle.definition.specs.Step.{stepOf}
 use Rattle.promises.specs.Lanes.{isActive, addressIn, Touches}
+use Rattle.promises.specs.Masked.{Marked}
 
 -- ---- bytes
 
@@ -40,12 +41,14 @@ pub data Becomes (m : State) (a old new : ℕ) : Instr → Type 0 where
 
 -- ---- lanes
 
--- the instruction gives register r of lane l the word y; no other instruction writes a vector register
+-- the instruction gives register r of lane l the word y: a masked operation and a masked vid.v where v0 marks the lane, and vmerge one of two words; no other instruction writes a vector register
 pub data Gives (m : State) (l : Lane) : Instr → VReg → ℕ → Type 0 where
-  operation : (o : Op) (a : VecArgs) → Gives m l (I.Vector o a) (a .vd) (applyOf o (laneOf (m .vector) (a .vs2) l) (operandOf (m .vector) (sourceOf (immediateOf o) (a .src) m) l))
+  operation : (o : Op) (a : VecArgs) → (a .masked ≡ true → Marked m l) → Gives m l (I.Vector o a) (a .vd) (applyOf o (laneOf (m .vector) (a .vs2) l) (operandOf (m .vector) (sourceOf (immediateOf o) (a .src) m) l))
   move : (r : VReg) (s : Source) → Gives m l (I.VMove r s) r (operandOf (m .vector) (sourceOf extendOf s m) l)
+  mergeOperand : (r b : VReg) (s : Source) → Marked m l → Gives m l (I.VMerge r b s) r (operandOf (m .vector) (sourceOf extendOf s m) l)
+  mergeOther : (r b : VReg) (s : Source) → (Marked m l → ⊥) → Gives m l (I.VMerge r b s) r (laneOf (m .vector) b l)
   scalar : (r : VReg) (a : XReg) → Gives m l (I.VMoveSX r a) r (xOf a m)
-  number : (r : VReg) → Gives m l (I.Vid r) r (l .0)
+  number : (t : Bool) (r : VReg) → (t ≡ true → Marked m l) → Gives m l (I.Vid t r) r (l .0)
   load : (s : Space) (k : LoadOp) (r a : VReg) (n : ℕ) → Gives m l (I.VLoad s k r a n) r (loadFrom k (memoryOf m) (laneAt s a n m l))
 
 -- lane l's words in the vector file v, after the instruction: what it gives, and every other word as before

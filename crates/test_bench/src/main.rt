@@ -34,6 +34,12 @@ fn examples() {
     case(b"x64/card.bin", b"x64/kernel.bin", b"x64/data.bin");
     case(b"race/card.bin", b"race/kernel.bin", b"race/data.bin");
     case(b"agree/card.bin", b"agree/kernel.bin", b"agree/data.bin");
+    case(b"masked/card.bin", b"masked/kernel.bin", b"masked/data.bin");
+    case(
+        b"masked_v0/card.bin",
+        b"masked_v0/kernel.bin",
+        b"masked_v0/data.bin",
+    );
 }
 
 // Cards that are missing, or whose length, version or total is wrong.

@@ -114,6 +114,10 @@ fn space_letter(s: Space) -> u8 {
     }
 }
 
+fn mask_letter(masked: bool, letter: u8) -> u8 {
+    if masked { b'm' } else { letter }
+}
+
 fn line(k: u8, l: u8, op: u8, a: u8, b: u8, c: u8, imm: u32) -> Parts {
     Parts {
         kind: [k, l],
@@ -163,7 +167,7 @@ fn vector(i: Instr) -> Parts {
             let b = v.vs2;
             let s = v.src;
             line(
-                b'v',
+                mask_letter(v.masked, b'v'),
                 b'e',
                 op_number(o),
                 d.0,
@@ -175,7 +179,8 @@ fn vector(i: Instr) -> Parts {
         Instr::VMove(d, s) => line(b'v', b'm', 0, d.0, source_field(s), 0, source_form(s)),
         Instr::VMoveXS(d, b) => line(b'x', b's', 0, d.0, 0, b.0, 0),
         Instr::VMoveSX(d, a) => line(b's', b'x', 0, d.0, a.0, 0, 0),
-        Instr::Vid(d) => line(b'i', b'd', 0, d.0, 0, 0, 0),
+        Instr::VMerge(d, b, s) => line(b'm', b'g', 0, d.0, source_field(s), b.0, source_form(s)),
+        Instr::Vid(t, d) => line(mask_letter(t, b'i'), b'd', 0, d.0, 0, 0, 0),
         _ => ventus(i),
     }
 }

@@ -1,4 +1,4 @@
--- Worked steps, beside the trace cards: stores of each size, stores that clash and that agree, loads of each kind, private accesses taken and refused, divisions, CSRs read and written, words behind prefixes.
+-- Worked steps, beside the trace cards: stores of each size, stores that clash and that agree, loads of each kind, private accesses taken and refused, divisions, CSRs read and written, words behind prefixes, masked words.
 use Prim.Native.Nat.{ℕ}
 use mathlib.Core.List.{List, [], _∷_, _++_}
 use lib.ListN.{getD, take, drop, replicate}
@@ -149,6 +149,24 @@ module _ (M : Machine) where
       ∷ behind (0x0000300B ∷ 0x02108157 ∷ []) gives (6 ∷ 1 ∷ 2 ∷ 0 ∷ 0 ∷ 0 ∷ replicate 4 100)
       ∷ behind (0x0000200B ∷ 0xFFF02383 ∷ []) gives (9 ∷ 1 ∷ 1 ∷ 0 ∷ 0 ∷ 0 ∷ replicate 4 100)
       ∷ behind (0x0080200B ∷ 0x808023F3 ∷ []) gives (7 ∷ 1 ∷ 1 ∷ 8 ∷ 0 ∷ 0 ∷ replicate 4 100)
+      -- masked, behind vmv.v.v v0, v1, which marks lanes 0 and 2 of the active 0, 2 and 3: vadd.vi v2, v1, 3, v0.t; where no lane is marked, v0 being 0, it is taken too
+      ∷ behind (0x5E008057 ∷ 0x0011B157 ∷ []) gives (5 ∷ 2 ∷ 0 ∷ 0 ∷ 0 ∷ 0 ∷ 8 ∷ 100 ∷ 10 ∷ 100 ∷ [])
+      ∷ behind (0x0011B157 ∷ []) gives (5 ∷ 1 ∷ 0 ∷ 0 ∷ 0 ∷ 0 ∷ replicate 4 100)
+      -- vid.v v2, v0.t; vmerge.vim v2, v1, -1, v0, which writes lane 3 too; vmseq.vv v0, v1, v1, v0.t, then v0 in v2
+      ∷ behind (0x5E008057 ∷ 0x5008A157 ∷ []) gives (5 ∷ 2 ∷ 0 ∷ 0 ∷ 0 ∷ 0 ∷ 0 ∷ 100 ∷ 2 ∷ 100 ∷ [])
+      ∷ behind (0x5E008057 ∷ 0x5C1FB157 ∷ []) gives (5 ∷ 2 ∷ 0 ∷ 0 ∷ 0 ∷ 0 ∷ 0xFFFFFFFF ∷ 100 ∷ 0xFFFFFFFF ∷ 8 ∷ [])
+      ∷ behind (0x5E008057 ∷ 0x60108057 ∷ 0x5E000157 ∷ []) gives (5 ∷ 3 ∷ 0 ∷ 0 ∷ 0 ∷ 0 ∷ 1 ∷ 100 ∷ 1 ∷ 8 ∷ [])
+      -- REGEXTI: vadd.vi v2, v1, -1019, v0.t; vmerge.vim v2, v1, -1019, v0; xd: vadd.vi v32, v1, 3, v0.t, then x2: vadd.vi v2, v32, 1
+      ∷ behind (0x5E008057 ∷ 0x8000300B ∷ 0x0012B157 ∷ []) gives (5 ∷ 3 ∷ 0 ∷ 0 ∷ 0 ∷ 0 ∷ 0xFFFFFC0A ∷ 100 ∷ 0xFFFFFC0C ∷ 100 ∷ [])
+      ∷ behind (0x5E008057 ∷ 0x8000300B ∷ 0x5C12B157 ∷ []) gives (5 ∷ 3 ∷ 0 ∷ 0 ∷ 0 ∷ 0 ∷ 0xFFFFFC05 ∷ 100 ∷ 0xFFFFFC05 ∷ 8 ∷ [])
+      ∷ behind (0x5E008057 ∷ 0x0010200B ∷ 0x0011B057 ∷ 0x0400200B ∷ 0x0200B157 ∷ []) gives (5 ∷ 5 ∷ 0 ∷ 0 ∷ 0 ∷ 0 ∷ 9 ∷ 100 ∷ 11 ∷ 1 ∷ [])
+      -- 6: a masked vadd.vi, vid.v and vmerge.vim to v0; masked vmv.x.s and vmv.s.x; vadd.vi to v0 behind a REGEXT whose xd is 0
+      ∷ behind (0x5E008057 ∷ 0x0011B057 ∷ []) gives (6 ∷ 1 ∷ 0 ∷ 0 ∷ 0 ∷ 0 ∷ replicate 4 100)
+      ∷ behind (0x5E008057 ∷ 0x5008A057 ∷ []) gives (6 ∷ 1 ∷ 0 ∷ 0 ∷ 0 ∷ 0 ∷ replicate 4 100)
+      ∷ behind (0x5E008057 ∷ 0x5C1FB057 ∷ []) gives (6 ∷ 1 ∷ 0 ∷ 0 ∷ 0 ∷ 0 ∷ replicate 4 100)
+      ∷ behind (0x5E008057 ∷ 0x401023D7 ∷ []) gives (6 ∷ 1 ∷ 0 ∷ 0 ∷ 0 ∷ 0 ∷ replicate 4 100)
+      ∷ behind (0x5E008057 ∷ 0x4002E157 ∷ []) gives (6 ∷ 1 ∷ 0 ∷ 0 ∷ 0 ∷ 0 ∷ replicate 4 100)
+      ∷ behind (0x5E008057 ∷ 0x0000200B ∷ 0x0011B057 ∷ []) gives (6 ∷ 2 ∷ 1 ∷ 0 ∷ 0 ∷ 0 ∷ replicate 4 100)
       ∷ []
 
 -- ---- the promise

@@ -1,12 +1,12 @@
-// The vector words' kinds, by funct3, then funct6. A form that a row lacks is an arm of its own: the compiler then makes one table of a form's
+// The vector words' kinds, by funct3, then funct6; whether a word is masked, its handler reads from it. A form that a row lacks is an arm of its own: the compiler then makes one table of a form's
 // arms and the rows' (docs/SPEED.md).
 ghost use mathlib.Core.Path.{_≡_};
 ghost use Prim.Native.Nat.{ℕ};
 ghost use Rattle.isa.specs.declared.Instr.the-variants.{Refused};
 ghost use Rattle.isa.specs.Fields.{fieldsOf};
 ghost use Rattle.isa.specs.Table.{seek, fixed as fixedTo};
-ghost use Rattle.isa.specs.Vector.{vectorTable, multiplyTable, plainWord, multiplyWord, fromV, fromX, fromI, operandsWord, vectorWord};
-ghost use Rattle.isa.specs.Kinds.{laneOpWord, instrOf};
+ghost use Rattle.isa.specs.Vector.{vectorTable, multiplyTable, moveWord, plainWord, multiplyWord, fromV, fromX, fromI, vectorWord};
+ghost use Rattle.isa.specs.Kinds.{sourceIn, laneOpWord, instrOf};
 use isa::kinds;
 
 // The kind, where a fixed field has the value that it must have.
@@ -63,6 +63,17 @@ fn multiply_row(funct6: u32) -> u32
     }
 }
 
+// vmv.v, whose vs2 is 0, or, masked, vmerge.
+fn move_or_merge(w: u32) -> u32
+    ensures { λ r. ⌜ instrOf r w ≡ moveWord (sourceIn (fieldsOf w)) (fieldsOf w) ⌝ }
+{
+    let vm = w / 33554432 % 128 % 2;
+    if vm == 0 {
+        return kinds::VMERGE;
+    }
+    fixed(w / 1048576 % 32, 0, kinds::VMOVE)
+}
+
 // No VV form: 000011, 011110 and 011111.
 fn plain_vv(w: u32) -> u32
     requires { ⌜ fieldsOf w .funct3 ≡ 0b000 ⌝ }
@@ -70,7 +81,7 @@ fn plain_vv(w: u32) -> u32
 {
     let funct6 = w / 33554432 % 128 / 2;
     match funct6 {
-        0b010111 => fixed(w / 1048576 % 32, 0, kinds::VMOVE),
+        0b010111 => move_or_merge(w),
         0b000011 => kinds::NONE,
         0b011110 => kinds::NONE,
         0b011111 => kinds::NONE,
@@ -85,7 +96,7 @@ fn plain_vx(w: u32) -> u32
 {
     let funct6 = w / 33554432 % 128 / 2;
     match funct6 {
-        0b010111 => fixed(w / 1048576 % 32, 0, kinds::VMOVE),
+        0b010111 => move_or_merge(w),
         _ => row(funct6),
     }
 }
@@ -97,7 +108,7 @@ fn plain_vi(w: u32) -> u32
 {
     let funct6 = w / 33554432 % 128 / 2;
     match funct6 {
-        0b010111 => fixed(w / 1048576 % 32, 0, kinds::VMOVE),
+        0b010111 => move_or_merge(w),
         0b000010 => kinds::NONE,
         0b000100 => kinds::NONE,
         0b000101 => kinds::NONE,
@@ -114,8 +125,9 @@ fn multiply_vv(w: u32) -> u32
     ensures { λ r. ⌜ instrOf r w ≡ multiplyWord (fromV (fieldsOf w)) (fieldsOf w) ⌝ }
 {
     let funct6 = w / 33554432 % 128 / 2;
+    let vm = w / 33554432 % 128 % 2;
     match funct6 {
-        0b010000 => fixed(w / 32768 % 32, 0, kinds::VMOVE_XS),
+        0b010000 => fixed(vm, 1, fixed(w / 32768 % 32, 0, kinds::VMOVE_XS)),
         0b010100 => fixed(
             w / 1048576 % 32,
             0,
@@ -130,15 +142,17 @@ fn multiply_vx(w: u32) -> u32
     ensures { λ r. ⌜ instrOf r w ≡ multiplyWord (fromX (fieldsOf w)) (fieldsOf w) ⌝ }
 {
     let funct6 = w / 33554432 % 128 / 2;
+    let vm = w / 33554432 % 128 % 2;
     match funct6 {
-        0b010000 => fixed(w / 1048576 % 32, 0, kinds::VMOVE_SX),
+        0b010000 => fixed(vm, 1, fixed(w / 1048576 % 32, 0, kinds::VMOVE_SX)),
         _ => multiply_row(funct6),
     }
 }
 
-fn operands(funct3: u32, w: u32) -> u32
+// A caller that knows funct3 says so: no jump goes by it then.
+pub fn vector(funct3: u32, w: u32) -> u32
     requires { ⌜ fieldsOf w .funct3 ≡ funct3 ⌝ }
-    ensures { λ r. ⌜ instrOf r w ≡ operandsWord (fieldsOf w) ⌝ }
+    ensures { λ r. ⌜ instrOf r w ≡ vectorWord (fieldsOf w) ⌝ }
 {
     match funct3 {
         0b000 => plain_vv(w),
@@ -146,18 +160,6 @@ fn operands(funct3: u32, w: u32) -> u32
         0b100 => plain_vx(w),
         0b010 => multiply_vv(w),
         0b110 => multiply_vx(w),
-        _ => kinds::NONE,
-    }
-}
-
-// vm is 1. A caller that knows funct3 says so: no jump goes by it then.
-pub fn vector(funct3: u32, w: u32) -> u32
-    requires { ⌜ fieldsOf w .funct3 ≡ funct3 ⌝ }
-    ensures { λ r. ⌜ instrOf r w ≡ vectorWord (fieldsOf w) ⌝ }
-{
-    let vm = w / 33554432 % 128 % 2;
-    match vm {
-        1 => operands(funct3, w),
         _ => kinds::NONE,
     }
 }

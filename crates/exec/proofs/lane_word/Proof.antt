@@ -2,7 +2,7 @@ use Rattle.memory.specs.Memories.{contents}
 use Rattle.lane_handlers.proofs.Laws.{lane-load-arm, lane-store-arm}
 use Rattle.exec.proofs.Laws.{ready-lanes, pended}
 use Rattle.handlers.proofs.Laws.{told}
-use Rattle.isa.proofs.Words.{barrier-is, endprg-is, join-is, pload-is, pstore-is, regext-is, regexti-is, setrpc-is, vbranch-is, vid-is, vload-is, vmove-is, vmove-sx-is, vmove-xs-is, vstore-is}
+use Rattle.isa.proofs.Words.{barrier-is, endprg-is, join-is, pload-is, pstore-is, regext-is, regexti-is, setrpc-is, vbranch-is, vid-is, vload-is, vmerge-is, vmove-is, vmove-sx-is, vmove-xs-is, vstore-is}
 use Rattle.isa.specs.Fields.{fieldsOf, immI}
 use Rattle.isa.specs.Prefix.{regExt, regExtI}
 use Rattle.isa.specs.declared.Instr.the-variants as I
@@ -46,6 +46,7 @@ lane-word-spec =
     (λ c κs. let four = c .before .before .before .before in let a = (four .before .before .before .before .args) in (ready-lanes (a .g .now) (a .h .now) (a .x .now) (a .s .now) (a .v .now) (contents (a .d .now) (a .l .now)) ((four .before .before .before .before .pre) .0)))
     (λ c κs. let four = c .before .before .before .before in (four .before .before .pre) .0 .lent .long)
     (λ c κs. let four = c .before .before .before .before in (four .before .before .pre) .0 .lent .long)
+    (λ c κs. let four = c .before .before .before .before in let a = (four .before .before .before .before .args) in (ready-lanes (a .g .now) (a .h .now) (a .x .now) (a .s .now) (a .v .now) (contents (a .d .now) (a .l .now)) ((four .before .before .before .before .pre) .0)))
     (λ c κs. let four = c .before .before .before .before in let a = (four .before .before .before .args) in let f = fieldsOf (a .w) in ((four .before .before .before .pre) .0 .lent .long, (four .before .before .before .pre) .1 ∙ sym (past (on f) Refused _ laneGroups (ofRegisters ++ ofImmediates) ((c .before .before .match) .rest))))
     (λ c. search needs)
     (λ c. let four = c .before .before .before .before in let a = (four .before .before .before .before .before .args) in told (vbranch-is (a .kind) (a .w) ((c .before .before .before .before .match) .keys1) refl refl refl refl) ((c .vbranch) .ensures (a .x .now) (contents (a .d .now) (a .l .now))))
@@ -66,9 +67,11 @@ lane-word-spec =
     (λ c. search needs)
     (λ c. let four = c .before .before .before .before in let eight = four .before .before .before .before in let a = (eight .before .before .before .args) in told (vmove-sx-is (a .kind) (a .w) ((four .before .before .match) .keys11) refl refl) ((c .before .before .vmove-sx) .ensures (a .s .now) (contents (a .d .now) (a .l .now)) ((eight .before .before .before .pre) .0 .lent .room)))
     (λ c. search needs)
-    (λ c. let four = c .before .before .before .before in let eight = four .before .before .before .before in let a = (eight .before .before .args) in told (vid-is (a .kind) (a .w) ((four .before .match) .keys12) refl) ((c .before .before .vid) .ensures (a .x .now) (a .s .now) (contents (a .d .now) (a .l .now)) ((eight .before .before .pre) .0 .lent .room)))
+    (λ c. let four = c .before .before .before .before in let eight = four .before .before .before .before in let a = (eight .before .before .args) in told (vid-is (a .kind) (a .w) ((four .before .match) .keys12) refl refl) ((c .before .before .vid) .ensures (a .x .now) (a .s .now) (contents (a .d .now) (a .l .now)) ((eight .before .before .pre) .0 .lent .room)))
     (λ c. search needs)
     (λ c. let four = c .before .before .before .before in let eight = four .before .before .before .before in let a = (eight .before .before .before .args) in told (vmove-is (a .kind) (a .w) ((four .before .before .match) .keys13) refl refl) ((c .before .before .vmove) .ensures (a .s .now) (contents (a .d .now) (a .l .now)) ((eight .before .before .before .pre) .0 .lent .room)))
     (λ c. let four = c .before .before .before .before in let a = (four .before .before .before .args) in told (regext-is (a .kind) (a .w) ((c .before .before .match) .keys14) refl) (pended (I.RegExt (immI (fieldsOf (a .w)))) regExt (immI (fieldsOf (a .w))) _ (a .g .now) (a .h .now) (a .x .now) (a .s .now) (a .v .now) (contents (a .d .now) (a .l .now)) _ ((c .pend) .ensures .0) ((c .pend) .ensures .1 (a .g .now) (a .x .now) (a .s .now) ((four .before .before .before .pre) .0 .lent .room)) refl refl))
     (λ c. let four = c .before .before .before .before in let a = (four .before .before .before .args) in told (regexti-is (a .kind) (a .w) ((c .before .before .match) .keys15) refl) (pended (I.RegExtI (immI (fieldsOf (a .w)))) regExtI (immI (fieldsOf (a .w))) _ (a .g .now) (a .h .now) (a .x .now) (a .s .now) (a .v .now) (contents (a .d .now) (a .l .now)) _ ((c .pend2) .ensures .0) ((c .pend2) .ensures .1 (a .g .now) (a .x .now) (a .s .now) ((four .before .before .before .pre) .0 .lent .room)) refl refl))
+    (λ c. search needs)
+    (λ c. let four = c .before .before .before .before in let eight = four .before .before .before .before in let a = (eight .before .before .before .args) in told (vmerge-is (a .kind) (a .w) ((four .before .before .match) .keys16) refl refl refl) ((c .before .before .vmerge) .ensures (a .s .now) (contents (a .d .now) (a .l .now)) ((eight .before .before .before .pre) .0 .lent .room)))
     (λ c. let four = c .before .before .before .before in let a = (four .before .before .before .before .args) in (c .op-reg) .ensures (a .g .now) (a .s .now) (a .v .now) (contents (a .d .now) (a .l .now)) ((four .before .before .before .before .pre) .0 .lent .room)))

@@ -20,7 +20,8 @@ lane-word-spec =
     (λ c κs. search needs) (λ c κs. search needs) (λ c κs. search needs) (λ c κs. search needs) (λ c κs. search needs) (λ c κs. search needs)
     (λ c κs. search needs) (λ c κs. search needs) (λ c κs. search needs) (λ c κs. search needs) (λ c κs. search needs) (λ c κs. search needs)
     (λ c κs. search needs) (λ c κs. search needs) (λ c κs. search needs) (λ c κs. search needs) (λ c κs. search needs) (λ c κs. search needs)
-    (λ c κs. search needs) (λ c κs. search needs) (λ c κs. search needs) (λ c κs. search needs)
+    (λ c κs. search needs) (λ c κs. search needs) (λ c κs. search needs) (λ c κs. search needs) (λ c κs. search needs) (λ c κs. search needs)
+    (λ c κs. search needs) (λ c κs. search needs)
     (λ c.
     let p = c .before .before in
     rw (p .before .before .match .keys1, p .before .cond .ensures, p .vs1 .ensures .0, c .before .vs2 .ensures .0, c .imm-b .ensures .0))
@@ -44,10 +45,13 @@ lane-word-spec =
     (λ c. rw (c .before .match .keys9, c .rs1 .ensures .0))
     (λ c. rw (c .before .before .match .keys10, c .before .xd2 .ensures .0, c .vs24 .ensures .0))
     (λ c. rw (c .before .before .match .keys11, c .before .vd3 .ensures .0, c .xs12 .ensures .0))
-    (λ c. rw (c .before .match .keys12, c .vd4 .ensures .0))
+    (λ c. rw (c .before .before .match .keys12, c .before .masked .ensures, c .vd4 .ensures .0))
     (λ c. rw (c .before .before .match .keys13, c .before .vd5 .ensures .0, c .source .ensures))
     (λ c. rw (c .before .match .keys14, c .imm-i3 .ensures .0))
     (λ c. rw (c .before .match .keys15, c .imm-i4 .ensures .0))
+    (λ c.
+    let p = c .before .before in
+    rw (p .before .match .keys16, p .vd6 .ensures .0, c .before .vs25 .ensures .0, c .source2 .ensures))
     (λ c.
     let w = c .before .before .args .w in
     c .register-word .ensures

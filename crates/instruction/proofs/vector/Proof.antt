@@ -6,7 +6,7 @@ pub vector-spec : {M : Type 1} → statement M
 vector-spec =
     tie.close
     (tie.spec
-    (λ c κs. search needs) (λ c κs. search needs) (λ c κs. search needs) (λ c κs. search needs)
+    (λ c κs. search needs) (λ c κs. search needs) (λ c κs. search needs) (λ c κs. search needs) (λ c κs. search needs)
     (λ c.
-    let p = c .before .before in
-    rw (p .before .vd .ensures .0, p .vs2 .ensures .0, c .before .source .ensures, c .op-at .ensures)))
+    let p = c .before .before .before in
+    rw (p .before .vd .ensures .0, p .vs2 .ensures .0, c .before .before .source .ensures, c .before .masked .ensures, c .op-at .ensures)))

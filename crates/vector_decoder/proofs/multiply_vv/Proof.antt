@@ -14,11 +14,13 @@ unfolding rowOf multiplyWord sourceIn
 multiply-vv-spec =
     tie.close
     (tie.spec
-    (λ c κs. search needs) (λ c κs. search needs) (λ c κs. search needs) (λ c κs. search needs)
-    (λ c. c .fixed .ensures (c .before .before .args .w) ∙ simp (c .before .match .keys1))
+    (λ c κs. search needs) (λ c κs. search needs) (λ c κs. search needs) (λ c κs. search needs) (λ c κs. search needs)
     (λ c.
     let p = c .before .before in
-    c .fixed3 .ensures (p .before .args .w) ∙ rw (c .before .fixed2 .ensures (p .before .args .w)) (simp (p .match .keys2)))
+    c .fixed2 .ensures (p .before .args .w) ∙ rw (c .before .fixed .ensures (p .before .args .w)) (simp (p .match .keys1)))
+    (λ c.
+    let p = c .before .before in
+    c .fixed4 .ensures (p .before .args .w) ∙ rw (c .before .fixed3 .ensures (p .before .args .w)) (simp (p .match .keys2)))
     (λ c.
     let p = c .before .before in
     let f = fieldsOf (p .args .w) in

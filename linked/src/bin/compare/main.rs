@@ -9,7 +9,7 @@ use reference::case::{target_bytes, Case, Job};
 use reference::generate::{all_cases, Rng, NO_STATE};
 use reference::generate_marks::mark_cases;
 use reference::isa::ENDPRG;
-use reference::table::{Table, NOP};
+use reference::table::{Table, NOP, VM};
 use reference::{run, saved, Refusal};
 use std::collections::BTreeMap;
 use std::fmt::LowerHex;
@@ -170,13 +170,15 @@ impl Pair {
 }
 
 /// What was compared: the answers of each kind of call, and the steps taken; and of the single
-/// steps, the prefixes taken by their kind, and the answers to words behind a prefix.
+/// steps, the prefixes taken by their kind, and the answers to words behind a prefix and to vector
+/// words with vm = 0.
 #[derive(Default)]
 struct Seen {
     answers: BTreeMap<&'static str, BTreeMap<u32, u64>>,
     steps: u64,
     prefixes: [u64; 2],
     behind: [BTreeMap<u32, u64>; 2],
+    masked: BTreeMap<u32, u64>,
     groups: groups::SeenOfGroups,
 }
 
@@ -189,6 +191,21 @@ fn pending(state: &[u32]) -> Option<usize> {
     (1..=PREFIXES.len()).contains(&kind).then(|| kind - 1)
 }
 
+/// Whether the word at a state's PC is a vector word with vm = 0.
+fn is_masked(state: &[u32], kernel: &[u32]) -> bool {
+    let from_base = |state: &[u32]| {
+        let (pc, base) = (state.get(saved::PC_AT)?, state.get(saved::CODE_BASE_AT)?);
+        pc.checked_sub(*base)
+    };
+    let word = from_base(state).and_then(|offset| kernel.get(offset as usize / 4));
+    word.map_or(false, |word| word & 0x7f == 0x57 && word & VM == 0)
+}
+
+/// Whether an answer to a step says something of its word.
+fn is_of_a_word(answer: u32) -> bool {
+    answer == 0 || answer >= Refusal::NoWord.number()
+}
+
 impl Seen {
     fn count(&mut self, kind: &'static str, answer: u32) {
         *self.answers.entry(kind).or_default().entry(answer).or_default() += 1;
@@ -199,7 +216,7 @@ impl Seen {
     fn count_prefix(&mut self, before: Option<usize>, after: Option<usize>, answer: u32) {
         match (before, after) {
             (_, Some(kind)) if answer == 0 => self.prefixes[kind] += 1,
-            (Some(kind), _) if answer == 0 || answer >= Refusal::NoWord.number() => {
+            (Some(kind), _) if is_of_a_word(answer) => {
                 *self.behind[kind].entry(answer).or_default() += 1;
             }
             _ => {}
@@ -215,14 +232,18 @@ impl Seen {
             if *taken == 0 && answers.is_empty() {
                 continue;
             }
-            let words = answers.get(&0).copied().unwrap_or(0);
-            let refused = sum(answers) - words;
-            println!(
-                "{name}: {taken} taken; words behind it: {words} taken, {refused} refused; by answer {}",
-                each(answers)
-            );
+            println!("{name}: {taken} taken; words behind it: {}", taken_and_refused(answers));
+        }
+        if !self.masked.is_empty() {
+            println!("vector words with vm = 0: {}", taken_and_refused(&self.masked));
         }
     }
+}
+
+fn taken_and_refused(answers: &BTreeMap<u32, u64>) -> String {
+    let taken = answers.get(&0).copied().unwrap_or(0);
+    let refused = sum(answers) - taken;
+    format!("{taken} taken, {refused} refused; by answer {}", each(answers))
 }
 
 fn sum(answers: &BTreeMap<u32, u64>) -> u64 {
@@ -394,11 +415,15 @@ impl Round<'_> {
                 return Ok(());
             }
             let before = pending(&pair.linked.state);
+            let masked = is_masked(&pair.linked.state, kernel);
             let code = self.both(&call, kernel, pair)?;
             let taken = match call {
                 Call::Run(_) => pair.linked.words[0],
                 _ => {
                     self.seen.count_prefix(before, pending(&pair.linked.state), code);
+                    if masked && is_of_a_word(code) {
+                        *self.seen.masked.entry(code).or_default() += 1;
+                    }
                     u32::from(code == 0)
                 }
             };

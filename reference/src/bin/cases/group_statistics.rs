@@ -1,6 +1,7 @@
 //! What the group cases cover.
 
 use crate::counts::{count, each, print, Counts};
+use crate::masked_statistics::Masked;
 use crate::next;
 use crate::store_statistics::Stores;
 use reference::case::{evaluate, Answer, Case, GroupLent, Handed, Job, Said};
@@ -26,6 +27,7 @@ struct Stats {
     events: Counts,
     accesses: Counts,
     stores: Stores,
+    masked: Masked,
     /// The numbers that stop a group, by whether it is warp 0.
     stops: Counts,
     steps: u32,
@@ -249,6 +251,7 @@ impl Stats {
         }
         if let Some(insn) = next(warp, kernel) {
             self.stores.count(&insn, warp, file, 0);
+            self.masked.count_taken(&insn, warp, file);
         }
         assert_eq!(step(kernel, lent), (0, 0));
         let after = group_of(&lent.state);
@@ -297,6 +300,9 @@ impl Stats {
             let what = if answer.code == 9 { "refused" } else { "clashing" };
             count(&mut self.accesses, format!("{what}, {memories}"));
         }
+        if answer.code == 6 {
+            self.masked.count_refused(warp.prefix, exec::fetch(warp, kernel));
+        }
         if let (9 | 14 | 15, Some(insn)) = (answer.code, next(warp, kernel)) {
             self.stores.count(&insn, warp, file, answer.code);
         }
@@ -313,7 +319,7 @@ impl Stats {
             .map(|code| ["warp 0", "another warp"].map(|which| format!("{code} by {which}")))
             .concat();
         let stops: Vec<&str> = stops.iter().map(String::as_str).collect();
-        let stores = self.stores.counts();
+        let (stores, masked) = (self.stores.counts(), self.masked.taken());
         [
             each(&self.codes, &["launch 0", "launch 1", "launch 13", "step 0", "step 1"]),
             each(&self.codes, &["step 2", "step 3", "run 0", "run 1", "run 2", "run 3"]),
@@ -327,6 +333,8 @@ impl Stats {
             each(stores, &["taken, private lanes meet", "refused 15, private lanes meet"]),
             each(stores, &["taken, a lane that is not active would clash"]),
             each(stores, &["refused 15, neighbours clash", "refused 15, no neighbours clash"]),
+            each(masked, &["others, bit 0 is set in some active lanes", "others, in a split"]),
+            each(masked, &["vmerge, bit 0 is set in some active lanes", "others, into v0"]),
             vec![("an access across both memories".into(), self.across())],
             each(&self.states, &["zeroed", "left"]),
             each(&self.stops, &["3", "3, with a wild turn"]),
@@ -379,6 +387,7 @@ pub fn statistics(cases: &[Case], file: usize) {
     eprintln!("cases {} ({file} bytes)", cases.len());
     eprintln!("steps {}, longest run {}, deepest {}", stats.steps, stats.longest, stats.deepest);
     eprintln!("groups stepped, by warps {:?}", stats.warps);
+    let [masked, with_vm_0] = stats.masked.counts();
     let named = [
         ("kinds", &stats.kinds),
         ("codes", &stats.codes),
@@ -387,6 +396,8 @@ pub fn statistics(cases: &[Case], file: usize) {
         ("events", &stats.events),
         ("accesses", &stats.accesses),
         ("stores by lanes", stats.stores.counts()),
+        masked,
+        with_vm_0,
         ("stops", &stats.stops),
     ];
     print(&named, &stats.wanted(), FEWEST);

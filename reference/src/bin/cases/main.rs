@@ -10,9 +10,11 @@
 mod counts;
 mod group_statistics;
 mod mark_statistics;
+mod masked_statistics;
 mod prefix_statistics;
 mod store_statistics;
 
+use masked_statistics::Masked;
 use prefix_statistics::Prefixes;
 use reference::case::{evaluate, read_file, write_file, Answer, Case};
 use reference::generate::{all_cases, low_mask};
@@ -120,6 +122,7 @@ fn answer(files: &[&str]) -> Result<(), String> {
 struct Stats {
     prefixes: Prefixes,
     stores: Stores,
+    masked: Masked,
     kinds: BTreeMap<&'static str, u32>,
     codes: BTreeMap<u32, u32>,
     executed: BTreeMap<String, u64>,
@@ -153,6 +156,7 @@ impl Stats {
             let insn = next(&warp, kernel).expect("a word that was taken");
             self.count_private(&insn, &warp, vector, data, 0);
             self.stores.count(&insn, &warp, vector, 0);
+            self.masked.count_taken(&insn, &warp, vector);
             assert_eq!(run::step(&mut warp, kernel, vector, data), 0);
             assert!(warp.well_formed(), "a step broke the state");
             self.prefixes.count_taken(before.prefix, &insn);
@@ -182,6 +186,9 @@ impl Stats {
         assert_eq!(run::step(&mut warp, kernel, vector, data), code);
         assert!(warp == before && now_vector == vector && now_data == data);
         self.prefixes.count_refused(warp.prefix, exec::fetch(&warp, kernel), code);
+        if code == 6 {
+            self.masked.count_refused(warp.prefix, exec::fetch(&warp, kernel));
+        }
         if let Some(insn) = next(&warp, kernel) {
             if matches!(code, 7..=11 | 14 | 15) {
                 *self.refused.entry(format!("{} {}", code, name(&insn))).or_default() += 1;
@@ -324,9 +331,10 @@ fn statistics(cases: &[Case], file: usize) {
     eprintln!("private lanes, bytes at u mod 4 {:?}", stats.private_lanes);
     stats.stores.print();
     stats.prefixes.print();
+    stats.masked.print();
     for v in variants() {
         let times = stats.executed.get(&v.name).copied().unwrap_or(0);
-        if times < 50 {
+        if times < if v.is_masked() { 15 } else { 50 } {
             eprintln!("TOO FEW: {} executed {times} times", v.name);
         }
     }

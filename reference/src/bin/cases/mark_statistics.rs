@@ -5,6 +5,7 @@ use reference::case::{evaluate, Case, Job, Said};
 use reference::generate_marks::end_and_steps;
 use reference::isa::{decode, Insn};
 use reference::sheet::{steps_of, STEP_BYTES};
+use reference::table::VM;
 use reference::{card, run};
 
 /// How often each should occur at least.
@@ -29,9 +30,11 @@ struct Stats {
     ends: Counts,
     first: Counts,
     steps: usize,
-    /// Steps that are prefixes, and runs with such a step.
+    /// Steps that are prefixes, steps that are vector words with vm = 0, and runs with such steps.
     prefixes: usize,
     prefixed_runs: u32,
+    masked: usize,
+    masked_runs: u32,
     longest_run: usize,
     longest_sheet: usize,
     deepest: u8,
@@ -62,10 +65,16 @@ fn refused_with_1(case: &Case, job: &Job) -> &'static str {
     }
 }
 
-/// Whether a step's word is a prefix.
-fn is_prefix(step: &[u8]) -> bool {
-    let word = u32::from_be_bytes([step[4], step[5], step[6], step[7]]);
+fn word_of(step: &[u8]) -> u32 {
+    u32::from_be_bytes([step[4], step[5], step[6], step[7]])
+}
+
+fn is_prefix(word: u32) -> bool {
     matches!(decode(word), Some(Insn::RegExt(_) | Insn::RegExtI(_)))
+}
+
+fn is_masked(word: u32) -> bool {
+    word & 0x7f == 0x57 && word & VM == 0
 }
 
 impl Stats {
@@ -93,9 +102,13 @@ impl Stats {
         count(if steps.is_empty() { &mut self.first } else { &mut self.ends }, end);
         self.steps += steps.len() / STEP_BYTES;
         self.longest_run = self.longest_run.max(steps.len() / STEP_BYTES);
-        let prefixes = steps.chunks_exact(STEP_BYTES).filter(|step| is_prefix(step)).count();
+        let words = || steps.chunks_exact(STEP_BYTES).map(word_of);
+        let prefixes = words().filter(|word| is_prefix(*word)).count();
         self.prefixes += prefixes;
         self.prefixed_runs += u32::from(prefixes > 0);
+        let masked = words().filter(|word| is_masked(*word)).count();
+        self.masked += masked;
+        self.masked_runs += u32::from(masked > 0);
         let splits = steps.chunks_exact(STEP_BYTES).map(|step| step[STEP_BYTES - 1]);
         self.deepest = splits.fold(self.deepest, u8::max);
         steps
@@ -141,6 +154,7 @@ impl Stats {
             each(&self.wrong, &FIELDS.map(|(name, _)| name)),
             each(&self.ends, &["0", "3", "4", "5", "6", "7", "8", "9", "10", "11", "14", "15"]),
             vec![("a prefix in a run".into(), self.prefixed_runs)],
+            vec![("a masked word in a run".into(), self.masked_runs)],
         ]
         .concat()
     }
@@ -155,6 +169,7 @@ pub fn statistics(cases: &[Case], file: usize) {
         stats.steps, stats.longest_run, stats.longest_sheet, stats.deepest
     );
     eprintln!("prefixes {}, in {} runs", stats.prefixes, stats.prefixed_runs);
+    eprintln!("masked words {}, in {} runs", stats.masked, stats.masked_runs);
     let named = [
         ("kinds", &stats.kinds),
         ("codes", &stats.codes),
