@@ -21,8 +21,7 @@ use Rattle.isa.specs.Scalar.{luiWord, auipcWord, jalWord, jumps, jalrWor
 use Rattle.isa.specs.Vector.{OpForms, vectorTable, multiplyTable, has, vectorAs, moves, plainWord, movesM, multiplyWord, operands, vectorWord}
 use Rattle.isa.specs.Ventus.{vbranchAs, joinWord, joins, splitsWord, endPrgWord, barrierWord, stops, stopWord, prefixWord, warpWords, warpWord, vstores, accesses, vloadAs, vstoreAs, laneAccessWord, ploadAs, pstoreAs, privateWord}
 use Rattle.isa.specs.Decode.{opcodes, decodeOf}
-use Rattle.isa.specs.Number.{isIn}
-use Rattle.isa.specs.Fits.{Range, _under_, _listed_, fieldOf, sourceLimit, shiftOps, vectorOps, rangesOf, holdsAll, fitsOf, AllHold, Fits}
+use Rattle.isa.specs.Fits.{Range, _under_, _listed_, isIn, fieldOf, sourceLimit, shiftOps, vectorOps, rangesOf, holdsAll, fitsOf, AllHold, Fits}
 use Rattle.isa.proofs.Laws.{both-true, Rows, found, rows-append, every-row, rows-tested, fixed-at}
 
 -- the fields are those of a word; funct7 is what is left

@@ -1,8 +1,8 @@
 -- The range of each field of an instruction. Every decoded instruction is in these ranges (proofs/Decoded.antt), so that its word can be made again from it (crate encoding). What the code may assume of a field that it reads is in the contracts of src/fields.rt.
 use Prim.Native.Nat.{ℕ, _%_, _^_, _<_}
 use mathlib.Core.List.{List, [], _∷_, _++_}
-use mathlib.Core.Bool.{Bool, true, false, cond, _&&_}
-use lib.Dec.{T, ltb}
+use mathlib.Core.Bool.{Bool, true, false, cond, _&&_, _||_}
+use lib.Dec.{T, eqb, ltb}
 use Rattle.answer.specs.Rows.{Row, _⇒_}
 use Rattle.word.specs.declared.Op.{Op}
 use Rattle.isa.specs.declared.XReg.{XReg}
@@ -16,13 +16,17 @@ use Rattle.isa.specs.declared.Space.the-variants.{Plain, Private}
 use Rattle.isa.specs.Bounds.{fieldLimit}
 use Rattle.isa.specs.Scalar.{immediates, leftShifts, rightShifts, base, multiplies, alternates}
 use Rattle.isa.specs.Vector.{OpForms, has, vectorTable, multiplyTable}
-use Rattle.isa.specs.Number.{isIn}
+use Rattle.isa.specs.Number.{number}
 
 -- a number that stays under a bound, or an op that a table has
 infix 68 _under_ _listed_
 pub data Range : Type 0 where
   _under_ : ℕ → ℕ → Range
   _listed_ : Op → List (Row Op) → Range
+
+abbrev pub isIn : Op → List (Row Op) → Bool
+isIn o [] = false
+isIn o (r ∷ rs) = eqb (number o) (number (r .is)) || isIn o rs
 
 abbrev pub xreg : XReg → Range
 xreg r = r .0 under fieldLimit

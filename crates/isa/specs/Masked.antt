@@ -1,15 +1,15 @@
 -- Masked vector words, vm = 0: the mask is in v0, and no masked word but a compare may write it.
-use mathlib.Core.Bool.{Bool, false, not, _&&_}
+use mathlib.Core.Bool.{Bool, false, not, _&&_, _||_}
 use mathlib.Core.List.{List, [], _∷_}
 use lib.Dec.{eqb}
-use Rattle.answer.specs.Rows.{Row, _⇒_}
+use Rattle.answer.specs.Rows.{Row}
 use Rattle.word.specs.declared.Op.{Op}
-use Rattle.word.specs.declared.Op.the-variants as O
 use Rattle.isa.specs.declared.VReg.{VReg}
 use Rattle.isa.specs.declared.Instr.{Instr}
 use Rattle.isa.specs.declared.Instr.the-variants as I
 use Rattle.isa.specs.Fields.{v}
-use Rattle.isa.specs.Number.{isIn}
+use Rattle.isa.specs.Vector.{OpForms, compares}
+use Rattle.isa.specs.Number.{number}
 
 -- the register that has the mask: bit 0 of each lane's word
 abbrev pub v0 : VReg
@@ -18,14 +18,13 @@ v0 = v 0
 abbrev pub isV0 : VReg → Bool
 isV0 r = eqb (r .0) (v0 .0)
 
--- the ops that give 1 or 0, by funct6
-abbrev pub compares : List (Row Op)
-compares =
-    0b011000 ⇒ O.Seq ∷ 0b011001 ⇒ O.Sne ∷ 0b011010 ⇒ O.Sltu ∷ 0b011011 ⇒ O.Slt
-    ∷ 0b011100 ⇒ O.Sleu ∷ 0b011101 ⇒ O.Sle ∷ 0b011110 ⇒ O.Sgtu ∷ 0b011111 ⇒ O.Sgt ∷ []
+-- a table has the op in one of its rows
+abbrev pub hasOp : Op → List (Row OpForms) → Bool
+hasOp o [] = false
+hasOp o (r ∷ rs) = eqb (number o) (number (r .is .op)) || hasOp o rs
 
 abbrev pub isCompare : Op → Bool
-isCompare o = isIn o compares
+isCompare o = hasOp o compares
 
 -- a masked word, no compare, whose destination is v0: a step refuses it with 6
 abbrev pub overMask : Instr → Bool

@@ -1,8 +1,6 @@
 -- A number for each op, so that two can be compared; and the op of a number.
 use Prim.Native.Nat.{ℕ}
 use mathlib.Core.List.{List, [], _∷_}
-use mathlib.Core.Bool.{Bool, false, _||_}
-use lib.Dec.{eqb}
 use Rattle.answer.specs.Rows.{Row, _⇒_}
 use Rattle.word.specs.declared.Op.{Op}
 use Rattle.word.specs.declared.Op.the-variants as O
@@ -38,11 +36,6 @@ number O.Sle = 25
 number O.Sleu = 26
 number O.Sgt = 27
 number O.Sgtu = 28
-
--- a table has the op
-abbrev pub isIn : Op → List (Row Op) → Bool
-isIn o [] = false
-isIn o (r ∷ rs) = eqb (number o) (number (r .is)) || isIn o rs
 
 abbrev pub everyOp : List Op
 everyOp =

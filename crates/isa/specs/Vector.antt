@@ -27,17 +27,22 @@ VV-VX o = record { op = o; vv = true; vx = true; vi = false }
 abbrev pub VX-VI : Op → OpForms
 VX-VI o = record { op = o; vv = false; vx = true; vi = true }
 
--- by funct6
-abbrev pub vectorTable : List (Row OpForms)
-vectorTable =
-    0b000000 ⇒ VV-VX-VI O.Add ∷ 0b000010 ⇒ VV-VX O.Sub ∷ 0b000011 ⇒ VX-VI O.Rsub
-    ∷ 0b000100 ⇒ VV-VX O.Minu ∷ 0b000101 ⇒ VV-VX O.Min ∷ 0b000110 ⇒ VV-VX O.Maxu ∷ 0b000111 ⇒ VV-VX O.Max
-    ∷ 0b001001 ⇒ VV-VX-VI O.And ∷ 0b001010 ⇒ VV-VX-VI O.Or ∷ 0b001011 ⇒ VV-VX-VI O.Xor
-    ∷ 0b100101 ⇒ VV-VX-VI O.Sll ∷ 0b101000 ⇒ VV-VX-VI O.Srl ∷ 0b101001 ⇒ VV-VX-VI O.Sra
-    ∷ 0b011000 ⇒ VV-VX-VI O.Seq ∷ 0b011001 ⇒ VV-VX-VI O.Sne
+-- the compares, which give 1 or 0, by funct6
+abbrev pub compares : List (Row OpForms)
+compares =
+    0b011000 ⇒ VV-VX-VI O.Seq ∷ 0b011001 ⇒ VV-VX-VI O.Sne
     ∷ 0b011010 ⇒ VV-VX O.Sltu ∷ 0b011011 ⇒ VV-VX O.Slt
     ∷ 0b011100 ⇒ VV-VX-VI O.Sleu ∷ 0b011101 ⇒ VV-VX-VI O.Sle
     ∷ 0b011110 ⇒ VX-VI O.Sgtu ∷ 0b011111 ⇒ VX-VI O.Sgt ∷ []
+
+-- by funct6
+abbrev pub vectorTable : List (Row OpForms)
+vectorTable =
+    (0b000000 ⇒ VV-VX-VI O.Add ∷ 0b000010 ⇒ VV-VX O.Sub ∷ 0b000011 ⇒ VX-VI O.Rsub
+    ∷ 0b000100 ⇒ VV-VX O.Minu ∷ 0b000101 ⇒ VV-VX O.Min ∷ 0b000110 ⇒ VV-VX O.Maxu ∷ 0b000111 ⇒ VV-VX O.Max
+    ∷ 0b001001 ⇒ VV-VX-VI O.And ∷ 0b001010 ⇒ VV-VX-VI O.Or ∷ 0b001011 ⇒ VV-VX-VI O.Xor
+    ∷ 0b100101 ⇒ VV-VX-VI O.Sll ∷ 0b101000 ⇒ VV-VX-VI O.Srl ∷ 0b101001 ⇒ VV-VX-VI O.Sra ∷ [])
+    ++ compares
 
 -- the M group, by funct6
 abbrev pub multiplyTable : List (Row OpForms)

@@ -1,8 +1,8 @@
 -- What a masked word leaves alone, and when it is refused.
 use Prim.Native.Nat.{ℕ, _≤_, _<_}
-use mathlib.Core.Path.{_≡_, refl, sym, ap, _∙_}
+use mathlib.Core.Path.{_≡_, refl, sym, _∙_}
 use mathlib.Core.Bool.{Bool, true, false, true≢false}
-use mathlib.Core.List.{List, [], _∷_}
+use mathlib.Core.List.{[], _∷_}
 use native.Mathlib.Omega.{arith}
 use Rattle.answer.specs.Rows.{_⇒_, first, Iff}
 use Rattle.answer.proofs.Rows.{first-silent, zero-silent}

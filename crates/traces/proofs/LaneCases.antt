@@ -250,6 +250,17 @@ one-kept : SameLane (lane 1) (stepOf masked-add marking .left .vector) (marking 
 unfolding computes start marking
 one-kept = kept masked-add marking (lane 1) (lit≤ tt) refl
 
+-- unfelt: lane 1, which isn't active, with another word in v0
+v0-elsewhere : Agree (allBut (lane 1)) (marking .vector) (set (marking .vector) 1 0)
+v0-elsewhere = (
+  sym (length-set (marking .vector) 1 0),
+  λ l c t r. sym (getD-set-other (marking .vector) 1 (slotOf r l) 0 0 (λ e. eqb-false (l .0) 1 (not-true _ t) (omega arith))),
+)
+
+unfelt-v0 : Alike (allBut (lane 1)) (stepOf masked-add marking) (stepOf masked-add (withFile (set (marking .vector) 1 0) marking))
+unfolding computes start marking
+unfelt-v0 = unfelt masked-add marking (set (marking .vector) 1 0) (lane 1) refl v0-elsewhere
+
 -- one-value: the active lanes of v2 hold 7
 shared : mixed (laneOf (start .vector) (vreg 2)) start ≡ false
 unfolding computes start

@@ -1,5 +1,5 @@
-// The vector words' kinds, by funct3, then funct6; whether a word is masked, its handler reads from it. A form that a row lacks is an arm of its own: the compiler then makes one table of a form's
-// arms and the rows' (docs/SPEED.md).
+// The vector words' kinds, by funct3, then funct6; whether a word is masked, its handler reads from it. A form that a row lacks is an arm of
+// its own: the compiler then makes one table of a form's arms and the rows' (docs/SPEED.md).
 ghost use mathlib.Core.Path.{_≡_};
 ghost use Prim.Native.Nat.{ℕ};
 ghost use Rattle.isa.specs.declared.Instr.the-variants.{Refused};

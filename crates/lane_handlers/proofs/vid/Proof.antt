@@ -7,7 +7,7 @@ use Rattle.isa.specs.Fields.{fieldsOf, isMasked}
 use Rattle.isa.specs.Masked.{isV0}
 use Rattle.isa.specs.Wide.{vdIn}
 use Rattle.lanes.specs.Lanes.{writtenLanes}
-use Rattle.layout.specs.Words.{maskIn, fixedIn, warpOf}
+use Rattle.layout.specs.Words.{maskIn, warpOf}
 use Rattle.definition.specs.Exec.{effectOf}
 use Rattle.definition.specs.Refuse.{refusalsOf}
 use Rattle.handlers.specs.Handles.{lists}
