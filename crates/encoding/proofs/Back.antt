@@ -2,7 +2,7 @@
 use Prim.Native.Nat.{ℕ, _+_, _*_, _/_, _%_, _^_, _<_}
 use mathlib.Core.Path.{_≡_, refl, sym, _∙_, subst}
 use mathlib.Core.List.{List, _++_}
-use mathlib.Core.Bool.{Bool, true, false, cond, _&&_}
+use mathlib.Core.Bool.{Bool, true, false, _&&_}
 use native.Mathlib.Omega.{arith}
 use lib.Dec.{T, eqb, eqb→eq}
 use borrow.Author.Tests.{eqb-true, eqb-false}
@@ -14,14 +14,14 @@ use Rattle.isa.specs.declared.Source.{Source}
 use Rattle.isa.specs.declared.Source.the-variants as From
 use Rattle.isa.specs.declared.Instr.{Instr}
 use Rattle.isa.specs.declared.Instr.the-variants as I
-use Rattle.isa.specs.Fields.{Fields, v, fieldsOf, funct6, vm, isMasked, immI, immS, immB, immU, immJ, privateLoadOffset, privateStoreOffset}
-use Rattle.isa.specs.Table.{on, wordAt, asWords, fixed}
+use Rattle.isa.specs.Fields.{Fields, fieldsOf, funct6, vm, isMasked, immI, immS, immB, immU, immJ, privateLoadOffset, privateStoreOffset}
+use Rattle.isa.specs.Table.{on, wordAt, asWords}
 use Rattle.isa.specs.Scalar.{luiWord, auipcWord, jalWord, jumps, jalrWord, conditions, branchAs, branchWord, loads, loadAs, loadWord, stores, storeAs, storeWord, immediates, leftShifts, rightShifts, immediateAs, shiftAs, shiftWord, shifts, opImmWord, opAs, byFunct3, ops, opWord, fences, fenceWord, csrOps, csrImmediates, csrAs, csrImmAs, csrWord}
 use Rattle.isa.specs.Vector.{OpForms, has, vectorTable, multiplyTable, vectorAs, moveWord, moves, plainWord, movesM, multiplyWord, fromV, fromX, fromI, operands, vectorWord}
 use Rattle.isa.specs.Ventus.{vbranchAs, joinWord, joins, splitsWord, endPrgWord, barrierWord, stops, stopWord, prefixWord, warpWords, warpWord, vstores, accesses, vloadAs, vstoreAs, laneAccessWord, ploadAs, pstoreAs, privateWord}
 use Rattle.isa.specs.Decode.{opcodes, decodeOf}
 use Rattle.isa.specs.Fits.{fieldOf}
-use Rattle.isa.proofs.Laws.{both-true, Rows, found, rows-append, every-row, rows-tested, fixed-at}
+use Rattle.isa.proofs.Laws.{both-true, Rows, found, rows-append, every-row, rows-tested, either-at, fixed-at}
 use Rattle.isa.proofs.Decoded.{SmallFields, small}
 use Rattle.encoding.specs.Encode.{condNumber, loadNumber, storeNumber, csrNumber, codeIn, firstOf, secondOf, opCodes, immCodes, vectorCodes, operandCode, wordFrom, typeR, typeI, typeS, typeB, typeU, typeJ, withVm, wordOf}
 
@@ -118,10 +118,6 @@ Back op c i = (i ≡ I.Refused → ⊥) → wordOf i ≡ wordFrom op c
 
 refused : (op : ℕ) (c : Fields) → Back op c I.Refused
 refused op c ne = absurd (ne refl)
-
-where-formed : (op : ℕ) (c : Fields) (b : Bool) (i : Instr) → Back op c i → Back op c (cond b i I.Refused)
-where-formed op c true i h = h
-where-formed op c false i h = refused op c
 
 -- both codes of an op are those of the row
 abbrev coded : ℕ → ℕ → ℕ → ℕ → Bool
@@ -299,19 +295,16 @@ module _ (c : Fields) (h : SmallFields c) where
       (funct6 c) t q
       (λ f q.
       let e = codes (firstOf vectorCodes (f .op)) g (secondOf vectorCodes (f .op)) (funct6 c) q in
-      where-formed 0b1010111 c (has s f) _
-      (λ ne. same 0b1010111 c _ _ _ _ _ (with-vm _ (e .1) (isMasked c) refl) refl r (rw (e .0) o) refl))
+      either-at (Back 0b1010111 c) (has s f) _ I.Refused
+      (λ t ne. same 0b1010111 c _ _ _ _ _ (with-vm _ (e .1) (isMasked c) refl) refl r (rw (e .0) o) refl) (λ t. refused _ c))
 
   -- vmerge or vmv.v
   move-back : (s : Source) → fieldOf s ≡ c .rs1 → operandCode 0 s ≡ c .funct3 → funct6 c ≡ 0b010111 → Back 0b1010111 c (moveWord s c)
   unfolding wordOf
-  move-back s r o e = either (isMasked c) refl
-    where
-      either : (t : Bool) → isMasked c ≡ t → Back 0b1010111 c (cond t (I.VMerge (v (c .rd)) (v (c .rs2)) s) (fixed (c .rs2) 0 (I.VMove (v (c .rd)) s)))
-      either true q = λ ne. same 0b1010111 c _ _ _ _ _ (with-vm _ (sym e) true q) refl r o refl
-      either false q =
-          fixed-at (Back 0b1010111 c) (c .rs2) 0 _ (refused _ c)
-          (λ z ne. same 0b1010111 c _ _ _ _ _ (with-vm _ (sym e) false q) (sym z) r o refl)
+  move-back s r o e =
+      either-at (Back 0b1010111 c) (isMasked c) _ _ (λ q ne. same 0b1010111 c _ _ _ _ _ (with-vm _ (sym e) true q) refl r o refl)
+      (λ q. fixed-at (Back 0b1010111 c) (c .rs2) 0 _ (refused _ c)
+      (λ z ne. same 0b1010111 c _ _ _ _ _ (with-vm _ (sym e) false q) (sym z) r o refl))
 
   plain-back : (s : Source) → fieldOf s ≡ c .rs1 → operandCode 0 s ≡ c .funct3 → Back 0b1010111 c (plainWord s c)
   unfolding plainWord

@@ -22,7 +22,7 @@ use Rattle.isa.specs.Vector.{OpForms, vectorTable, multiplyTable, has, v
 use Rattle.isa.specs.Ventus.{vbranchAs, joinWord, joins, splitsWord, endPrgWord, barrierWord, stops, stopWord, prefixWord, warpWords, warpWord, vstores, accesses, vloadAs, vstoreAs, laneAccessWord, ploadAs, pstoreAs, privateWord}
 use Rattle.isa.specs.Decode.{opcodes, decodeOf}
 use Rattle.isa.specs.Fits.{Range, _under_, _listed_, isIn, fieldOf, sourceLimit, shiftOps, vectorOps, rangesOf, holdsAll, fitsOf, AllHold, Fits}
-use Rattle.isa.proofs.Laws.{both-true, Rows, found, rows-append, every-row, rows-tested, fixed-at}
+use Rattle.isa.proofs.Laws.{both-true, Rows, found, rows-append, every-row, rows-tested, either-at, fixed-at}
 
 -- the fields are those of a word; funct7 is what is left
 pub record SmallFields (c : Fields) : Type 0 where
@@ -165,10 +165,6 @@ module _ (c : Fields) (h : SmallFields c) (top : c .funct7 < 128) where
   fixed-fits : (n k : ℕ) (i : Instr) → Fits i → Fits (fixed n k i)
   fixed-fits n k i f = fixed-at Fits n k i tt (λ e. f)
 
-  either-fits : (b : Bool) (i j : Instr) → Fits i → Fits j → Fits (cond b i j)
-  either-fits true i j p q = p
-  either-fits false i j p q = q
-
   -- the vector words, by the last operand
   vector-rows :
       (s : Source) (t : List (Row OpForms)) → fieldOf s < sourceLimit s → T (every-row (formedIn s) t)
@@ -182,7 +178,7 @@ module _ (c : Fields) (h : SmallFields c) (top : c .funct7 < 128) where
   plain-fits s z =
       found Fits (on c) I.Refused (funct6 c) (moves s ++ asWords (vectorAs s) vectorTable) tt
       (rows-append Fits (on c) (funct6 c) (moves s) (asWords (vectorAs s) vectorTable)
-      ((λ e. either-fits (isMasked c) _ _ (h .rd, (h .rs2, (z, tt))) (fixed-fits (c .rs2) 0 (I.VMove (v (c .rd)) s) (h .rd, (z, tt)))), tt)
+      ((λ e. either-at Fits (isMasked c) _ _ (λ t. (h .rd, (h .rs2, (z, tt)))) (λ t. fixed-fits (c .rs2) 0 (I.VMove (v (c .rd)) s) (h .rd, (z, tt)))), tt)
       (vector-rows s vectorTable z (plain-ops s)))
 
   moves-m-fit : (s : Source) → Rows Fits (on c) (funct6 c) (movesM s)

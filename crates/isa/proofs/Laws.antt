@@ -51,12 +51,13 @@ rows-tested P make p c k (r ∷ rs) q h =
     let s = both-true (p (r .is) (r .code)) (every-row p rs) q in
     ((λ e. h (r .is) (subst (λ (n : ℕ). T (p (r .is) n)) (sym e) (s .0))), rows-tested P make p c k rs (s .1) h)
 
-fixed-by : (P : Instr → Type 0) (n k : ℕ) (i : Instr) (b : Bool) → eqb n k ≡ b → P I.Refused → (n ≡ k → P i) → P (cond b i I.Refused)
-fixed-by P n k i true e z h = h (eqb-true n k e)
-fixed-by P n k i false e z h = z
+-- P holds of one of two instructions by a test, where it holds of each where it is taken
+pub either-at : (P : Instr → Type 0) (b : Bool) (i j : Instr) → (b ≡ true → P i) → (b ≡ false → P j) → P (cond b i j)
+either-at P true i j h₁ h₂ = h₁ refl
+either-at P false i j h₁ h₂ = h₂ refl
 
 pub fixed-at : (P : Instr → Type 0) (n k : ℕ) (i : Instr) → P I.Refused → (n ≡ k → P i) → P (fixed n k i)
-fixed-at P n k i z h = fixed-by P n k i (eqb n k) refl z h
+fixed-at P n k i z h = either-at P (eqb n k) i I.Refused (λ e. h (eqb-true n k e)) (λ e. z)
 
 -- k is none of the table's codes, in the form in which a `match` on k hands it to its last arm
 abbrev pub NoneFrom : {A : Type 0} → Type 0 → ℕ → List (Row A) → Type 0

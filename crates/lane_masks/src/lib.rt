@@ -14,19 +14,12 @@ ghost use Prim.Native.Nat.{_^_, _<_, _≤_};
 ghost use lib.ListN.{length};
 ghost use Rattle.isa.specs.Bounds.{vectorRegisters};
 ghost use Rattle.lanes.specs.Mask.{bit};
-ghost use Rattle.lanes.specs.Lanes.{lanesMax, fileWords, isOdd, writtenLanes, mergeLane, writeLanes, maskOf};
+ghost use Rattle.lanes.specs.Lanes.{lanesMax, fileWords, writtenLanes, mergeLane, writeLanes, maskOf};
 ghost use Rattle.lanes.specs.Rows.{OperandOk, RowOf};
-ghost use Rattle.lane_masks.specs.Marks.{oddLane, mergeRow};
+ghost use Rattle.lane_masks.specs.V0Rows.{oddLane, mergeRow};
 
 // v0, which has the masks of masked words.
 const MASKS: VReg = VReg(0);
-
-// Bit 0 is set.
-fn odd(x: u32) -> bool
-    ensures { λ t. ⌜ t ≡ isOdd x ⌝ }
-{
-    x % 2 == 1
-}
 
 // The lanes below n whose word has bit 0 set.
 fn odd_lanes(n: usize, a: &[u32; LANES]) -> u32
@@ -36,7 +29,7 @@ fn odd_lanes(n: usize, a: &[u32; LANES]) -> u32
     let mut out = 0;
     let mut l = 0;
     while l < n {
-        out = with(out, Lane(l), odd(a[l]));
+        out = with(out, Lane(l), a[l] % 2 == 1);
         l += 1;
     }
     out
@@ -58,7 +51,7 @@ fn merge(z: &[u32; LANES], x: &[u32; LANES], y: &[u32; LANES]) -> [u32; LANES]
     let mut a = [0u32; LANES];
     let mut l = 0;
     while l < LANES {
-        a[l] = choose(odd(z[l]), y[l], x[l]);
+        a[l] = choose(z[l] % 2 == 1, y[l], x[l]);
         l += 1;
     }
     a

@@ -17,7 +17,7 @@ use Rattle.isa.specs.declared.VReg.{VReg}
 use Rattle.lanes.specs.declared.Lane.{Lane}
 use Rattle.lanes.specs.Mask.{lane, bit}
 use Rattle.lanes.specs.Lanes.{lanesMax, fileWords, slotOf, stepIf, eachLane, writeLanes, maskOf, okIf, valueOf, uniformOf}
-use Rattle.lanes.proofs.Laws.{newest, each-none, each-on, each-off, all-same, ok-not, value-only}
+use Rattle.lanes.proofs.Laws.{newest, each-none, each-on, each-off, write-same, all-same, ok-not, value-only}
 use Rattle.lanes.proofs.MaskLaws.{bit-above, and-bits, mask-zero}
 use Rattle.lanes.specs.Rows.{at, RowOf, RowOn, holdsLane, maskStep}
 
@@ -86,11 +86,16 @@ each-idle on step x n (suc k) e =
     ∙ ap (λ (t : Bool). stepIf t (step (lane (k + n))) (eachLane (k + n) on step x)) (e (lane (k + n)) (omega arith))
     ∙ each-idle on step x n k e
 
-pub each-numt : {A : Type 0} (m n : ℕ) (step : Lane → A → A) (x : A) → m < 2 ^ n → n ≤ lanesMax → eachLane lanesMax (bit m) step x ≡ eachLane n (bit m) step x
+each-numt : {A : Type 0} (m n : ℕ) (step : Lane → A → A) (x : A) → m < 2 ^ n → n ≤ lanesMax → eachLane lanesMax (bit m) step x ≡ eachLane n (bit m) step x
 each-numt m n step x h k =
     let q : lanesMax ≡ (lanesMax - n) + n = omega arith in
     ap (λ (j : ℕ). eachLane j (bit m) step x) q
     ∙ each-idle (bit m) step x n (lanesMax - n) (λ l z. bit-above m n l h z)
+
+-- a row written in all lanes, by a mask of n lanes
+pub row-written : (m n : ℕ) (d : VReg) (f g : Lane → ℕ) (v : List ℕ) → m < 2 ^ n → n ≤ lanesMax → ((l : Lane) → l .0 < lanesMax → f l ≡ g l)
+    → writeLanes lanesMax (bit m) d f v ≡ writeLanes n (bit m) d g v
+row-written m n d f g v h k e = each-numt m n _ v h k ∙ write-same (bit m) d f g v n (λ l b t. e l (omega arith))
 
 -- one lane more in a mask
 pub mask-turn : (on : Lane → Bool) (l m w : ℕ) (t : Bool) → t ≡ on (lane l) → w ≡ maskStep t (lane l) m → m ≡ maskOf l on → w ≡ maskOf (l + 1) on

@@ -22,7 +22,7 @@ use Rattle.isa.specs.Scalar.{jumps, jalrWord, conditions, branchAs, branchWord,
 use Rattle.isa.specs.Vector.{OpForms, vectorTable, multiplyTable, has, vectorAs, moves, plainWord, movesM, multiplyWord, fromV, fromX, fromI, operands, vectorWord}
 use Rattle.isa.specs.Ventus.{vbranchAs, joinWord, joins, splitsWord, endPrgWord, barrierWord, stops, stopWord, prefixWord, warpWords, warpWord, vstores, accesses, vloadAs, vstoreAs, laneAccessWord, ploadAs, pstoreAs, privateWord}
 use Rattle.isa.specs.Prefix.{extOf, extIOf, digitsOf, onSource, Takes, takesBy, allowed}
-use Rattle.isa.proofs.Laws.{Rows, found, rows-append, every-row, rows-tested, fixed-at, NoneFrom, past}
+use Rattle.isa.proofs.Laws.{Rows, found, rows-append, every-row, rows-tested, either-at, fixed-at, NoneFrom, past}
 use Rattle.isa.proofs.Decoded.{SmallFields}
 use Rattle.prefix.specs.Tells.{Tells, none, is, isExt, Known}
 
@@ -165,24 +165,16 @@ module _ {p : Prefix} {e d a b : Bool} (h : Known p e d a b) (c : Fields) (s : S
 
   -- ---- the vector words
 
-  where-formed : (t f : Bool) (i : Instr) → Tells p t i → Tells p t (cond f i I.Refused)
-  where-formed t true i z = z
-  where-formed t false i z = none refl
-
-  either-says : (t f : Bool) (i j : Instr) → Tells p t i → Tells p t j → Tells p t (cond f i j)
-  either-says t true i j y z = y
-  either-says t false i j y z = z
-
   -- by the last operand
   module _ (t : Bool) (r : Source) (z : ok (takesBy (onSource (digitsOf p) r)) ≡ t) where
     formed-say : (rows : List (Row OpForms)) → T (every-row (λ f n. true) rows) → Rows (Tells p t) (on c) (funct6 c) (asWords (vectorAs r) rows)
-    formed-say rows q = all-say t (vectorAs r) (funct6 c) rows q (λ f. where-formed t (has r f) _ (is z))
+    formed-say rows q = all-say t (vectorAs r) (funct6 c) rows q (λ f. either-at (Tells p t) (has r f) _ I.Refused (λ q. is z) (λ q. none refl))
 
     plain-says : Tells p t (plainWord r c)
     unfolding plainWord
     plain-says =
         found (Tells p t) (on c) I.Refused (funct6 c) (moves r ++ asWords (vectorAs r) vectorTable) (none refl)
-        (rows-append (Tells p t) (on c) (funct6 c) (moves r) (asWords (vectorAs r) vectorTable) ((λ q. either-says t (isMasked c) _ _ (is z) (fixed-says t (c .rs2) 0 _ (is z))), tt)
+        (rows-append (Tells p t) (on c) (funct6 c) (moves r) (asWords (vectorAs r) vectorTable) ((λ q. either-at (Tells p t) (isMasked c) _ _ (λ m. is z) (λ m. fixed-says t (c .rs2) 0 _ (is z))), tt)
         (formed-say vectorTable tt))
 
     multiply-says : Rows (Tells p t) (on c) (funct6 c) (movesM r) → Tells p t (multiplyWord r c)

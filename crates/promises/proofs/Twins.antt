@@ -31,38 +31,38 @@ use Rattle.definition.specs.State.{State, fixedOf, active, written, pcBy, memor
 use Rattle.definition.specs.Refuse.{astray, accessTests, refusalsOf}
 use Rattle.definition.specs.Exec.{Effect, goes, writes, stores, effectOf, immediateOf, sourceOf, loaded}
 use Rattle.promises.specs.Lanes.{SameLane, withFile, addressIn}
-use Rattle.promises.specs.Masked.{Marked}
+use Rattle.promises.specs.Masked.{InV0}
 use Rattle.promises.specs.Written.{Becomes, Gives, operation, move, mergeOperand, mergeOther, scalar, number, load}
 use Rattle.promises.proofs.Stores.{Apart, scalar-becomes, lanes-become}
 
 -- ---- the lanes that are written
 
 -- the test of bit 0, and the fact
-pub marked-true : (m : State) (l : Lane) → Marked m l → inV0 (m .vector) l ≡ true
-marked-true m l h = eq-eqb _ 1 h
+pub in-v0-true : (m : State) (l : Lane) → InV0 m l → inV0 (m .vector) l ≡ true
+in-v0-true m l h = eq-eqb _ 1 h
 
-pub true-marked : (m : State) (l : Lane) → inV0 (m .vector) l ≡ true → Marked m l
-true-marked m l e = eqb-true _ 1 e
+pub true-in-v0 : (m : State) (l : Lane) → inV0 (m .vector) l ≡ true → InV0 m l
+true-in-v0 m l e = eqb-true _ 1 e
 
 module _ (m : State) (l : Lane) where
   pub written-active : (t : Bool) → written t m l ≡ true → active m l ≡ true
   written-active false e = e
   written-active true e = both-left (active m l) (inV0 (m .vector) l) e
 
-  pub written-marked : (t : Bool) → written t m l ≡ true → t ≡ true → Marked m l
-  written-marked false e q = absurd (true≢false (sym q))
-  written-marked true e q = true-marked m l (both-right (active m l) (inV0 (m .vector) l) e)
+  pub written-in-v0 : (t : Bool) → written t m l ≡ true → t ≡ true → InV0 m l
+  written-in-v0 false e q = absurd (true≢false (sym q))
+  written-in-v0 true e q = true-in-v0 m l (both-right (active m l) (inV0 (m .vector) l) e)
 
-  pub marked-written : (t : Bool) → (t ≡ true → Marked m l) → active m l ≡ true → written t m l ≡ true
-  marked-written false h a = a
-  marked-written true h a = rw (a, marked-true m l (h refl))
+  pub in-v0-written : (t : Bool) → (t ≡ true → InV0 m l) → active m l ≡ true → written t m l ≡ true
+  in-v0-written false h a = a
+  in-v0-written true h a = rw (a, in-v0-true m l (h refl))
 
 -- what vmerge gives a lane
 pub merged : (m : State) (l : Lane) (r b : VReg) (s : Source) → Gives m l (I.VMerge r b s) r (mergeLane (m .vector) b (sourceOf extendOf s m) l)
 merged m l r b s = by (inV0 (m .vector) l) refl
   where
     by : (t : Bool) → inV0 (m .vector) l ≡ t → Gives m l (I.VMerge r b s) r (cond t (operandOf (m .vector) (sourceOf extendOf s m) l) (laneOf (m .vector) b l))
-    by true e = mergeOperand r b s (true-marked m l e)
+    by true e = mergeOperand r b s (true-in-v0 m l e)
     by false e = mergeOther r b s (eqb-false _ 1 e)
 
 module _ (m : State) (u : List ℕ) where
@@ -97,9 +97,9 @@ module _ (m : State) (u : List ℕ) where
   written-same false l s = refl
   written-same true l s = ap (λ (x : ℕ). active m l && isOdd x) (s v0)
 
-  fills-by : {i : Instr} {rs : List (Row Bool)} {r : VReg} {f g : Lane → ℕ} (t : Bool) → ((l : Lane) → (t ≡ true → Marked m l) → Gives m l i r (f l)) → ((l : Lane) → SameLane l (m .vector) u → f l ≡ g l)
+  fills-by : {i : Instr} {rs : List (Row Bool)} {r : VReg} {f g : Lane → ℕ} (t : Bool) → ((l : Lane) → (t ≡ true → InV0 m l) → Gives m l i r (f l)) → ((l : Lane) → SameLane l (m .vector) u → f l ≡ g l)
       → Compared i rs rs (writes (written t m) r f) (writes (written t (withFile u m)) r g)
-  fills-by t w o = record { rows = λ s. refl; twin = gives (λ l e. (written-active m l t e, w l (written-marked m l t e))) (λ l s. (written-same t l s, o l s)) }
+  fills-by t w o = record { rows = λ s. refl; twin = gives (λ l e. (written-active m l t e, w l (written-in-v0 m l t e))) (λ l s. (written-same t l s, o l s)) }
 
   -- a scalar register or an immediate is the same with any file
   source-same : (f : ℕ → ℕ → ℕ) (e : Source) → sourceOf f e m ≡ sourceOf f e (withFile u m)

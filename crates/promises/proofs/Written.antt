@@ -38,7 +38,7 @@ use Rattle.promises.specs.Written as W
 use Rattle.promises.specs.Written.{Becomes, stays, Gives, Written, LaneWords, OneValue, MoveShares}
 use Rattle.promises.proofs.Stores.{Apart, active-of, active-below}
 use Rattle.promises.proofs.Used.{becomes-back, gives-other, gives-back}
-use Rattle.promises.proofs.Twins.{marked-true, marked-written, Twin, moves, gives, stores-both, compared}
+use Rattle.promises.proofs.Twins.{in-v0-true, in-v0-written, Twin, moves, gives, stores-both, compared}
 
 -- ---- each byte
 
@@ -82,12 +82,12 @@ record Filled (m : State) (l : Lane) (i : Instr) (r : VReg) (y : ℕ) : Type 0 w
 
 filled : (m : State) (l : Lane) (i : Instr) (r : VReg) (y : ℕ) → Gives m l i r y → Filled m l i r y
 unfolding effectOf
-filled m l i r y (W.operation o a c) = record { on = _; words = _; is = refl; picks = marked-written m l (a .masked) c; at = refl }
+filled m l i r y (W.operation o a c) = record { on = _; words = _; is = refl; picks = in-v0-written m l (a .masked) c; at = refl }
 filled m l i r y (W.move c s) = record { on = _; words = _; is = refl; picks = λ a. a; at = refl }
-filled m l i r y (W.mergeOperand c b s h) = record { on = _; words = _; is = refl; picks = λ a. a; at = rw (marked-true m l h) }
+filled m l i r y (W.mergeOperand c b s h) = record { on = _; words = _; is = refl; picks = λ a. a; at = rw (in-v0-true m l h) }
 filled m l i r y (W.mergeOther c b s h) = record { on = _; words = _; is = refl; picks = λ a. a; at = rw (ne-eqb _ 1 h) }
 filled m l i r y (W.scalar c a) = record { on = _; words = _; is = refl; picks = λ a. a; at = refl }
-filled m l i r y (W.number t c h) = record { on = _; words = _; is = refl; picks = marked-written m l t h; at = refl }
+filled m l i r y (W.number t c h) = record { on = _; words = _; is = refl; picks = in-v0-written m l t h; at = refl }
 filled m l i r y (W.load s k c a n) = record { on = _; words = _; is = refl; picks = λ a. a; at = refl }
 
 others-by : (m : State) (u : List ℕ) (i : Instr) (a b : Effect) → fixedOf m .numt ≤ lanesMax → (l : Lane) → l .0 < lanesMax → Twin m u i a b

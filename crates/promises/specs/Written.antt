@@ -27,7 +27,7 @@ use Rattle.definition.specs.Refuse.{mixed, stepTests}
 use Rattle.definition.specs.Exec.{immediateOf, sourceOf}
 use Rattle.definition.specs.Step.{stepOf}
 use Rattle.promises.specs.Lanes.{isActive, addressIn, Touches}
-use Rattle.promises.specs.Masked.{Marked}
+use Rattle.promises.specs.Masked.{InV0}
 
 -- ---- bytes
 
@@ -41,14 +41,14 @@ pub data Becomes (m : State) (a old new : ℕ) : Instr → Type 0 where
 
 -- ---- lanes
 
--- the instruction gives register r of lane l the word y: a masked operation and a masked vid.v where v0 marks the lane, and vmerge one of two words; no other instruction writes a vector register
+-- the instruction gives register r of lane l the word y: a masked operation and a masked vid.v where the lane is in v0, and vmerge one of two words; no other instruction writes a vector register
 pub data Gives (m : State) (l : Lane) : Instr → VReg → ℕ → Type 0 where
-  operation : (o : Op) (a : VecArgs) → (a .masked ≡ true → Marked m l) → Gives m l (I.Vector o a) (a .vd) (applyOf o (laneOf (m .vector) (a .vs2) l) (operandOf (m .vector) (sourceOf (immediateOf o) (a .src) m) l))
+  operation : (o : Op) (a : VecArgs) → (a .masked ≡ true → InV0 m l) → Gives m l (I.Vector o a) (a .vd) (applyOf o (laneOf (m .vector) (a .vs2) l) (operandOf (m .vector) (sourceOf (immediateOf o) (a .src) m) l))
   move : (r : VReg) (s : Source) → Gives m l (I.VMove r s) r (operandOf (m .vector) (sourceOf extendOf s m) l)
-  mergeOperand : (r b : VReg) (s : Source) → Marked m l → Gives m l (I.VMerge r b s) r (operandOf (m .vector) (sourceOf extendOf s m) l)
-  mergeOther : (r b : VReg) (s : Source) → (Marked m l → ⊥) → Gives m l (I.VMerge r b s) r (laneOf (m .vector) b l)
+  mergeOperand : (r b : VReg) (s : Source) → InV0 m l → Gives m l (I.VMerge r b s) r (operandOf (m .vector) (sourceOf extendOf s m) l)
+  mergeOther : (r b : VReg) (s : Source) → (InV0 m l → ⊥) → Gives m l (I.VMerge r b s) r (laneOf (m .vector) b l)
   scalar : (r : VReg) (a : XReg) → Gives m l (I.VMoveSX r a) r (xOf a m)
-  number : (t : Bool) (r : VReg) → (t ≡ true → Marked m l) → Gives m l (I.Vid t r) r (l .0)
+  number : (t : Bool) (r : VReg) → (t ≡ true → InV0 m l) → Gives m l (I.Vid t r) r (l .0)
   load : (s : Space) (k : LoadOp) (r a : VReg) (n : ℕ) → Gives m l (I.VLoad s k r a n) r (loadFrom k (memoryOf m) (laneAt s a n m l))
 
 -- lane l's words in the vector file v, after the instruction: what it gives, and every other word as before

@@ -30,13 +30,14 @@ use Rattle.traces.specs.Bound.{launchOn}
 use Rattle.promises.specs.Lanes.{isActive, SameLane, Agree, allBut, withFile, Alike, Touches}
 use Rattle.promises.specs.Lanes as L
 use Rattle.promises.specs.Masked as M
+use Rattle.promises.specs.Masked.{WritesMask}
 use Rattle.promises.specs.Written.{Becomes, LaneLeft}
 use Rattle.promises.specs.Clashes.{Agreeing, ByLanes, In, inOrder}
 use Rattle.promises.specs.Private.{Reaches}
 use Rattle.promises.specs.Private as P
 use Rattle.promises.proofs.Stores.{active-below}
 use Rattle.promises.proofs.Written.{written, lane-words, one-value, move-shares}
-use Rattle.promises.proofs.Masked.{unmarked-kept, mask-tests}
+use Rattle.promises.proofs.Masked.{masked-off-kept, is-compare, mask-tests}
 use Rattle.promises.proofs.Clashes.{clashes, clashes-last, only-lanes-clash, any-order}
 use Rattle.promises.proofs.Private.{steps-apart}
 use Rattle.promises.proofs.Lanes.{active-mask, kept, unwritten, all-but, unseen, unfelt, lane-alone}
@@ -219,30 +220,36 @@ two-left : LaneLeft start (instrAt numbering start) (lane 2) (stepOf numbering s
 unfolding computes start
 two-left = lane-words numbering start refl (lane 2) refl
 
--- mask-tests: VADD.VI v3, v2, 1, v0.t; v0 marks lane 0, and of the others lane 1, which isn't active. To v0 it is refused with 6
+-- mask-tests: VADD.VI v3, v2, 1, v0.t; in v0 are lanes 0 and 1, and lane 1 isn't active. To v0 it is refused with 6
 abbrev masked-add : List ℕ
 masked-add = 0x0020b1d7 ∷ []
 
 unfoldable marking : State
 marking = withFile (set (set (start .vector) 0 1) 1 1) start
 
+not-v0 : WritesMask (instrAt masked-add marking) → ⊥
+unfolding computes start marking
+not-v0 (M.operation o a t n z) =
+    let y : vreg 3 .0 ≡ 0 = ap (λ (r : VReg). r .0) z in
+    omega arith
+
 masked-taken : stepOf masked-add marking .code ≡ 0
 unfolding computes start marking
-masked-taken = mask-tests masked-add marking (M.operation _ _) refl .taken .1 refl
+masked-taken = mask-tests masked-add marking (M.operation _ _) refl .taken .1 not-v0
 
 masked-refused : stepOf (0x0020b057 ∷ []) marking .code ≡ 6
 unfolding computes start marking
-masked-refused = mask-tests (0x0020b057 ∷ []) marking (M.operation _ _) refl .refused .1 refl
+masked-refused = mask-tests (0x0020b057 ∷ []) marking (M.operation _ _) refl .refused .1 (M.operation _ _ refl (λ c. true≢false (sym (is-compare c))) refl)
 
--- unmarked-kept: lane 0 has its sum, lane 2, which is active, keeps all its words, and so does lane 1, by `kept`
-marked-written : laneOf (stepOf masked-add marking .left .vector) (vreg 3) (lane 0) ≡ 8
+-- masked-off-kept: lane 0 has its sum, lane 2, which is active, keeps all its words, and so does lane 1, by `kept`
+v0-written : laneOf (stepOf masked-add marking .left .vector) (vreg 3) (lane 0) ≡ 8
 unfolding computes start marking
-marked-written = refl
+v0-written = refl
 
 two-kept : SameLane (lane 2) (stepOf masked-add marking .left .vector) (marking .vector)
 unfolding computes start marking
 two-kept =
-    unmarked-kept masked-add marking (M.operation _ _ refl) (lane 2) (lit≤ tt) (λ e.
+    masked-off-kept masked-add marking (M.operation _ _ refl) (lane 2) (lit≤ tt) (λ e.
     let z : 0 ≡ 1 = e in
     omega arith)
 

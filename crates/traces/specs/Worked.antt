@@ -149,7 +149,7 @@ module _ (M : Machine) where
       ∷ behind (0x0000300B ∷ 0x02108157 ∷ []) gives (6 ∷ 1 ∷ 2 ∷ 0 ∷ 0 ∷ 0 ∷ replicate 4 100)
       ∷ behind (0x0000200B ∷ 0xFFF02383 ∷ []) gives (9 ∷ 1 ∷ 1 ∷ 0 ∷ 0 ∷ 0 ∷ replicate 4 100)
       ∷ behind (0x0080200B ∷ 0x808023F3 ∷ []) gives (7 ∷ 1 ∷ 1 ∷ 8 ∷ 0 ∷ 0 ∷ replicate 4 100)
-      -- masked, behind vmv.v.v v0, v1, which marks lanes 0 and 2 of the active 0, 2 and 3: vadd.vi v2, v1, 3, v0.t; where no lane is marked, v0 being 0, it is taken too
+      -- masked, behind vmv.v.v v0, v1, by which lanes 0 and 2 of the active 0, 2 and 3 are in v0: vadd.vi v2, v1, 3, v0.t; where no lane is in v0, whose words are 0, it is taken too
       ∷ behind (0x5E008057 ∷ 0x0011B157 ∷ []) gives (5 ∷ 2 ∷ 0 ∷ 0 ∷ 0 ∷ 0 ∷ 8 ∷ 100 ∷ 10 ∷ 100 ∷ [])
       ∷ behind (0x0011B157 ∷ []) gives (5 ∷ 1 ∷ 0 ∷ 0 ∷ 0 ∷ 0 ∷ replicate 4 100)
       -- vid.v v2, v0.t; vmerge.vim v2, v1, -1, v0, which writes lane 3 too; vmseq.vv v0, v1, v1, v0.t, then v0 in v2
@@ -167,6 +167,8 @@ module _ (M : Machine) where
       ∷ behind (0x5E008057 ∷ 0x401023D7 ∷ []) gives (6 ∷ 1 ∷ 0 ∷ 0 ∷ 0 ∷ 0 ∷ replicate 4 100)
       ∷ behind (0x5E008057 ∷ 0x4002E157 ∷ []) gives (6 ∷ 1 ∷ 0 ∷ 0 ∷ 0 ∷ 0 ∷ replicate 4 100)
       ∷ behind (0x5E008057 ∷ 0x0000200B ∷ 0x0011B057 ∷ []) gives (6 ∷ 2 ∷ 1 ∷ 0 ∷ 0 ∷ 0 ∷ replicate 4 100)
+      -- VBRANCH doesn't look at v0: lane 3, which isn't in it, wants the else PC by vbne v3, v4, with v3 = 1 there by vmsgtu.vi v3, v1, 7; then vadd.vi v2, v1, 3 in lanes 0 and 2
+      ∷ behind (0x5E008057 ∷ 0x7A13B1D7 ∷ 0x0041945B ∷ 0x0211B157 ∷ []) gives (5 ∷ 4 ∷ 0 ∷ 0 ∷ 0 ∷ 0 ∷ 8 ∷ 100 ∷ 10 ∷ 100 ∷ [])
       ∷ []
 
 -- ---- the promise

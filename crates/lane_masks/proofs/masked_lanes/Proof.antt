@@ -6,7 +6,7 @@ use lib.Bits.{bitAnd}
 use borrow.Author.Needs.{needs}
 use Rattle.lanes.specs.Mask.{bit}
 use Rattle.lanes.specs.Lanes.{isOdd, writtenLanes}
-use Rattle.lane_masks.specs.Marks.{oddLane}
+use Rattle.lane_masks.specs.V0Rows.{oddLane}
 use Rattle.lanes.proofs.MaskLaws.{mask-same, and-bits}
 use Rattle.lane_masks.proofs.masked_lanes.Statement.{statement}
 use Rattle.lane_masks.proofs.masked_lanes.Tie as tie

@@ -1,12 +1,11 @@
-use mathlib.Core.Path.{refl, ap, _∙_}
-use mathlib.Core.Bool.{Bool, cond}
+use mathlib.Core.Path.{refl}
 use Prim.Native.Nat.{_-_, _≤_, _<_}
 use native.Mathlib.Omega.{arith}
-use lib.ListN.{getD, replicate}
+use lib.ListN.{replicate}
 use borrow.Author.Needs.{needs}
 use Rattle.lanes.specs.Lanes.{lanesMax}
 use Rattle.lanes.specs.Rows.{RowOf}
-use Rattle.lane_masks.specs.Marks.{mergeRow}
+use Rattle.lane_masks.specs.V0Rows.{mergeRow}
 use Rattle.lanes.proofs.RowLaws.{row-none, row-more}
 use Rattle.lane_masks.proofs.merge.Statement.{statement}
 use Rattle.lane_masks.proofs.merge.Tie as tie
@@ -19,13 +18,12 @@ abbrev μ-loop : tie.MeasureT-loop
 
 loop-again : tie.Need-loop-again Inv-loop μ-loop
 loop-again c =
-    let t = c .before .before .before in
-    let k = t .before .before .before in
+    let k = c .before .before .before .before .before in
     let s = k .before .args in
     let below : k .loop .l < lanesMax = omega arith in (
       omega arith,
       row-more (mergeRow (s .z .now) (s .x .now) (s .y .now)) (k .loop .a) (k .loop .l) (c .choose .result) below
-          (c .choose .ensures ∙ ap (λ (b : Bool). cond b (getD (s .y .now) (k .loop .l) 0) (getD (s .x .now) (k .loop .l) 0)) (t .odd .ensures)) (k .loop .inv .1),
+          (c .choose .ensures) (k .loop .inv .1),
     )
 
 returns : tie.Need-returns Inv-loop μ-loop
@@ -35,6 +33,6 @@ pub merge-spec : {M : Type 1} → statement M
 merge-spec =
     tie.close
     (tie.spec Inv-loop μ-loop (λ c. (omega arith, row-none _ (replicate lanesMax 0) refl))
-    (λ c. search needs) (λ c. search needs) (λ c κs. search needs) (λ c. search needs) (λ c. search needs) (λ c. search needs) (λ c. search needs) (λ c κs. search needs)
+    (λ c. search needs) (λ c. search needs) (λ c. search needs) (λ c. search needs) (λ c. search needs) (λ c. search needs) (λ c κs. search needs)
     (λ c. search needs) (λ c. search needs) (λ c. search needs) (λ c. search needs)
     loop-again returns)

@@ -1,13 +1,10 @@
 use mathlib.Core.Path.{_≡_, _∙_}
 use mathlib.Core.Bool.{cond}
 use Prim.Native.Nat.{ℕ}
-use native.Mathlib.Omega.{arith}
 use borrow.Author.Needs.{needs}
-use Rattle.lanes.specs.Mask.{bit}
 use Rattle.lanes.specs.Lanes.{isOdd, mergeLane}
 use Rattle.lanes.specs.Rows.{at}
-use Rattle.lanes.proofs.Laws.{write-same}
-use Rattle.lanes.proofs.RowLaws.{each-numt}
+use Rattle.lanes.proofs.RowLaws.{row-written}
 use Rattle.lane_masks.proofs.merge_lanes.Statement.{statement}
 use Rattle.lane_masks.proofs.merge_lanes.Tie as tie
 
@@ -22,11 +19,9 @@ returns c =
     let x = y .before .before in
     let z = x .before .before in
     let s = z .before .before .before in
-    let n = s .args .n in
     p .put .ensures
-    ∙ each-numt (s .args .mask) n _ (s .args .v .now) (s .pre .5) (s .pre .4)
-    ∙ write-same (bit (s .args .mask)) (s .args .d) (at (m .merge .result)) (mergeLane (s .args .v .now) (s .args .a) (s .args .b)) (s .args .v .now) n
-    (λ l h t. m .merge .ensures .1 l (omega arith) ∙ three _ _ _ _ _ _ (z .row .ensures .1 l (omega arith)) (x .row2 .ensures .1 l (omega arith)) (y .operand-row .ensures .1 l (omega arith)))
+    ∙ row-written (s .args .mask) (s .args .n) (s .args .d) (at (m .merge .result)) (mergeLane (s .args .v .now) (s .args .a) (s .args .b)) (s .args .v .now) (s .pre .5) (s .pre .4)
+    (λ l h. m .merge .ensures .1 l h ∙ three _ _ _ _ _ _ (z .row .ensures .1 l h) (x .row2 .ensures .1 l h) (y .operand-row .ensures .1 l h))
 
 pub merge-lanes-spec : {M : Type 1} → statement M
 merge-lanes-spec =

@@ -1,12 +1,9 @@
 use mathlib.Core.Path.{ap₂, _∙_}
-use native.Mathlib.Omega.{arith}
 use borrow.Author.Needs.{needs}
 use Rattle.word.specs.Word.{applyOf}
-use Rattle.lanes.specs.Mask.{bit}
 use Rattle.lanes.specs.Lanes.{opLane}
 use Rattle.lanes.specs.Rows.{mapLane}
-use Rattle.lanes.proofs.Laws.{write-same}
-use Rattle.lanes.proofs.RowLaws.{each-numt}
+use Rattle.lanes.proofs.RowLaws.{row-written}
 use Rattle.lane_ops.proofs.op_lanes.Statement.{statement}
 use Rattle.lane_ops.proofs.op_lanes.Tie as tie
 
@@ -16,11 +13,9 @@ returns c =
     let y = m .before .before .before .before in
     let x = y .before .before in
     let s = x .before .before .before in
-    let n = s .args .n in
     m .map-op .ensures
-    ∙ each-numt (s .args .mask) n _ (s .args .v .now) (s .pre .5) (s .pre .4)
-    ∙ write-same (bit (s .args .mask)) (s .args .d) (mapLane (s .args .op) (x .row .result) (y .operand-row .result)) (opLane (s .args .op) (s .args .v .now) (s .args .a) (s .args .b)) (s .args .v .now) n
-    (λ l h t. ap₂ (applyOf (s .args .op)) (x .row .ensures .1 l (omega arith)) (y .operand-row .ensures .1 l (omega arith)))
+    ∙ row-written (s .args .mask) (s .args .n) (s .args .d) (mapLane (s .args .op) (x .row .result) (y .operand-row .result)) (opLane (s .args .op) (s .args .v .now) (s .args .a) (s .args .b)) (s .args .v .now) (s .pre .5) (s .pre .4)
+    (λ l h. ap₂ (applyOf (s .args .op)) (x .row .ensures .1 l h) (y .operand-row .ensures .1 l h))
 
 pub op-lanes-spec : {M : Type 1} → statement M
 op-lanes-spec = tie.close (tie.spec (λ c κs. search needs) (λ c κs. search needs) (λ c κs. search needs) (λ c. search needs) returns)

@@ -1,11 +1,8 @@
 use mathlib.Core.Path.{_∙_}
-use native.Mathlib.Omega.{arith}
 use borrow.Author.Needs.{needs}
-use Rattle.lanes.specs.Mask.{bit}
 use Rattle.lanes.specs.Lanes.{operandOf}
 use Rattle.lanes.specs.Rows.{at}
-use Rattle.lanes.proofs.Laws.{write-same}
-use Rattle.lanes.proofs.RowLaws.{each-numt}
+use Rattle.lanes.proofs.RowLaws.{row-written}
 use Rattle.lanes.proofs.move_lanes.Statement.{statement}
 use Rattle.lanes.proofs.move_lanes.Tie as tie
 
@@ -14,11 +11,8 @@ returns c =
     let p = c .before .before in
     let y = p .before .before .before in
     let s = y .before .before .before in
-    let n = s .args .n in
     p .put .ensures
-    ∙ each-numt (s .args .mask) n _ (s .args .v .now) (s .pre .4) (s .pre .3)
-    ∙ write-same (bit (s .args .mask)) (s .args .d) (at (y .operand-row .result)) (operandOf (s .args .v .now) (s .args .b)) (s .args .v .now) n
-    (λ l h t. y .operand-row .ensures .1 l (omega arith))
+    ∙ row-written (s .args .mask) (s .args .n) (s .args .d) (at (y .operand-row .result)) (operandOf (s .args .v .now) (s .args .b)) (s .args .v .now) (s .pre .4) (s .pre .3) (y .operand-row .ensures .1)
 
 pub move-lanes-spec : {M : Type 1} → statement M
 move-lanes-spec = tie.close (tie.spec (λ c κs. search needs) (λ c κs. search needs) (λ c. search needs) returns)
