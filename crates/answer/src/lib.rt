@@ -1,4 +1,6 @@
 // Every call's answer: done, or why it was refused, and the number of each.
+#![tactic(auto)]
+
 ghost use Rattle.std.specs.Prelude.{◌≡◌, ◌≤◌};
 ghost use Rattle.answer.specs.Answer.{refusal_of, number_of, last_step_number};
 

@@ -1,4 +1,6 @@
 // The machine's calls for C and Rust, over numbers and slices: a warp is a state of 241 words.
+#![tactic(auto)]
+
 ghost use Rattle.std.specs.Prelude.{◌≡◌, [], ◌∷◌, ◌<◌, length};
 ghost use Rattle.layout.specs.Words.{state_words};
 ghost use Rattle.definition.specs.Calls.{budget_limit};

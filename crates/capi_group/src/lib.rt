@@ -1,4 +1,6 @@
 // A group's calls for C and Rust, over numbers and slices: a group of W warps is a state of 1 + 241·W words. A library of its own.
+#![tactic(auto)]
+
 ghost use Rattle.std.specs.Prelude.{◌≡◌, ◌<◌};
 ghost use Rattle.memory.specs.Memories.{contents};
 ghost use Rattle.definition.specs.Calls.{budget_limit};

@@ -1,4 +1,6 @@
 // Marking and the model sheet for C and Rust, over numbers and slices: a library of its own.
+#![tactic(auto)]
+
 ghost use Rattle.std.specs.Prelude.{◌≡◌, [], ◌∷◌};
 ghost use Rattle.sheet_lines.specs.Compare.{marks_number, marks_step};
 ghost use Rattle.sheet.specs.Mark.{lent_runs};

@@ -1,4 +1,6 @@
 // The calls for C and Rust that look at single words. They are a library of their own, so that in the machine's archive the decoder has one caller (docs/SPEED.md).
+#![tactic(auto)]
+
 ghost use Rattle.std.specs.Prelude.{◌≡◌};
 ghost use Rattle.capi_words.specs.Words.{decode_call_of};
 

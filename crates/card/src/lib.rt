@@ -1,4 +1,6 @@
 // The launch card, read and written.
+#![tactic(auto)]
+
 ghost use Rattle.std.specs.Prelude.{◌≡◌, length};
 ghost use Rattle.answer.specs.declared.Answer.TheVariants.{Refused};
 ghost use Rattle.answer.specs.Answer.{number_of};

@@ -1,5 +1,7 @@
 // A word's kind. Where two codes tell rows apart they are matched as one number, an arm a number: the compiler makes one table of that, and
 // tests after it of an arm with a range (docs/SPEED.md).
+#![tactic(auto)]
+
 ghost use Rattle.std.specs.Prelude.{◌≡◌, false, [], ◌∷◌, ℕ, ◌+◌, ◌*◌, ◌%◌, ◌^◌, ◌<◌};
 ghost use Rattle.answer.specs.Rows.{one_of};
 ghost use Rattle.isa.specs.declared.Instr.{Instr};

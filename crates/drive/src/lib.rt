@@ -1,4 +1,6 @@
 // A run on the lent words: the tests, and the one loop over steps.
+#![tactic(auto)]
+
 ghost use Rattle.std.specs.Prelude.{◌≡◌, length};
 ghost use Rattle.layout.specs.Words.{moving_count, flat_count};
 ghost use Rattle.memory.specs.Memories.{contents};

@@ -1,4 +1,6 @@
 // One step on the lent words: the tests before a word, its row, and the row's handler.
+#![tactic(auto)]
+
 ghost use Rattle.std.specs.Prelude.{◌≡◌, true, List, [], ◌∷◌, ◌++◌, ℕ, ◌+◌, ◌*◌, ◌^◌, ◌≤◌, length, get_or};
 ghost use Rattle.answer.specs.Rows.{◌⇒◌, first};
 ghost use Rattle.isa.specs.Fields.{fields_of};

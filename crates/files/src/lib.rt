@@ -1,4 +1,6 @@
 // Files by name or by argument, and the printout of three to standard output. What the printout says is `printout`'s.
+#![tactic(auto)]
+
 ghost use Rattle.io.specs.Counts.{IsPrefixLen};
 
 use launch_files::{DATA_BYTES, KERNEL_BYTES};

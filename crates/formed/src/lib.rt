@@ -1,4 +1,6 @@
 // The one test of a warp: its words are a warp's, and it is well formed.
+#![tactic(auto)]
+
 ghost use Rattle.std.specs.Prelude.{◌≡◌, ◌&&◌, cond, ◌+◌, ◌-◌, ◌*◌, ◌≤◌, ◌<◌, drop};
 ghost use Rattle.isa.specs.Prefix.{prefix};
 ghost use Rattle.warp.specs.Warp.{split_count};

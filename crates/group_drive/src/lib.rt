@@ -1,4 +1,6 @@
 // A group's run on its warps' words: that warp's step by the one loop over steps, and the loop over turns.
+#![tactic(auto)]
+
 ghost use Rattle.std.specs.Prelude.{◌≡◌, ◌<◌};
 ghost use Rattle.memory.specs.Memories.{contents};
 ghost use Rattle.group_words.specs.Row.{row, Ready, Rooms};

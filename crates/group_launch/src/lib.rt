@@ -1,4 +1,6 @@
 // A group launched from its cards.
+#![tactic(auto)]
+
 ghost use Rattle.std.specs.Prelude.{◌≡◌, ◌&&◌, ◌∷◌, ◌+◌, ◌*◌, ◌≤◌, length, replicate};
 ghost use Rattle.layout.specs.Words.{state_words, words_of};
 ghost use Rattle.memory.specs.Memories.{contents};

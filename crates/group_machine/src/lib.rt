@@ -1,4 +1,6 @@
 // A whole group by value: its step and its run. Each answers for all inputs, and asks nothing of its caller.
+#![tactic(auto)]
+
 ghost use Rattle.std.specs.Prelude.{◌≡◌, true, ◌≤◌, ◌<◌, length};
 ghost use Rattle.answer.specs.Answer.{number_of};
 ghost use Rattle.memory.specs.Memories.{contents};

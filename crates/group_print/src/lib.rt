@@ -1,4 +1,6 @@
 // What `./group` prints: four files' bytes in, the lines' bytes out.
+#![tactic(auto)]
+
 ghost use Rattle.std.specs.Prelude.{◌≡◌, ◌+◌, ◌*◌, ◌≤◌, length};
 ghost use Rattle.io.specs.Counts.{IsPrefixLen};
 ghost use Rattle.memory.specs.Memories.{contents};

@@ -1,4 +1,6 @@
 // A group over a lent run of warps. The run is copied into a group by value, which takes the step, and copied back.
+#![tactic(auto)]
+
 ghost use Rattle.std.specs.Prelude.{◌≡◌, ◌<◌, length, get_or, set, replicate};
 ghost use Rattle.memory.specs.Memories.{contents};
 ghost use Rattle.warp.specs.Warp.{zero_warp};

@@ -1,4 +1,6 @@
 // A run of a group on its state's own words: the turn, then each warp's 241 words.
+#![tactic(auto)]
+
 ghost use Rattle.std.specs.Prelude.{◌≡◌, true, cond, [], ◌∷◌, ◌+◌, ◌*◌, ◌≤◌, ltb, length};
 ghost use Rattle.memory.specs.Memories.{contents};
 ghost use Rattle.layout.specs.Words.{state_words};

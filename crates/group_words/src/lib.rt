@@ -1,4 +1,6 @@
 // A group's words: whose turn it is, the release at a barrier, and the tests before a run.
+#![tactic(auto)]
+
 ghost use Rattle.std.specs.Prelude.{◌≡◌, ◌&&◌, List, map, ℕ, ◌<◌, ◌≤◌, length};
 ghost use Rattle.layout.specs.Words.{moving_count, flat_count, fixed_in};
 ghost use Rattle.memory.specs.Memories.{Contents, contents};

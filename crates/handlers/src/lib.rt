@@ -1,4 +1,6 @@
 // The handlers of jumps, branches, scalar accesses, CSR words, FENCE, AUIPC, JOIN, SETRPC, ENDPRG, BARRIER and the prefixes on the lent words, and what other handlers read and write with.
+#![tactic(auto)]
+
 ghost use Rattle.std.specs.Prelude.{◌≡◌, not, cond, List, ℕ, ◌%◌, ◌^◌, ◌<◌, ◌≤◌, ltb, length, get_or};
 ghost use Rattle.word.specs.Word.{add_of, extend_of};
 ghost use Rattle.isa.specs.Fields.{fields_of, imm_i, imm_s, imm_b, imm_u, imm_j};

@@ -1,5 +1,7 @@
 // The instruction of a word, by its kind: for the test program and for whoever lists words. The step reads the fields itself. A number of 64
 // bits is a word with the numbers of its registers above it.
+#![tactic(auto)]
+
 ghost use Rattle.std.specs.Prelude.{◌≡◌, ◌++◌, ◌%◌};
 ghost use Rattle.isa.specs.Fields.{fields_of};
 ghost use Rattle.isa.specs.Table.{word_at};

@@ -1,4 +1,6 @@
 // The instructions: registers, op enums, and one variant for each operand format.
+#![tactic(auto)]
+
 pub mod fields;
 pub mod kinds;
 pub mod masked;

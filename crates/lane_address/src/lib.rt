@@ -1,4 +1,6 @@
 // Where each lane's access goes, plain or private, and that a private one stays in its word.
+#![tactic(auto)]
+
 ghost use Rattle.std.specs.Prelude.{◌≡◌, true, not, ◌^◌, ◌<◌, ◌≤◌, length};
 ghost use Rattle.isa.specs.declared.Space.TheVariants as spaces;
 ghost use Rattle.lanes.specs.Mask.{bit};

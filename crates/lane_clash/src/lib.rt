@@ -1,4 +1,6 @@
 // Whether the stores of active lanes agree: no two of them store different values to one byte.
+#![tactic(auto)]
+
 ghost use Rattle.std.specs.Prelude.{◌≡◌, true, not, ◌+◌, ◌^◌, ◌<◌, ◌≤◌};
 ghost use Rattle.lanes.specs.Mask.{bit, lane};
 ghost use Rattle.lanes.specs.Lanes.{lanes_max, mask_of};

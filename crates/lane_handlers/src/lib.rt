@@ -1,4 +1,6 @@
 // What a row of the vector tables does to the lent words: a handler a row, and the accesses by lanes.
+#![tactic(auto)]
+
 ghost use Rattle.std.specs.Prelude.{◌≡◌, not, cond, List, [], ◌∷◌, ℕ, ◌+◌, ◌%◌, ◌<◌, ◌≤◌, eqb, length};
 ghost use Rattle.std.specs.Int.Count.{ones};
 ghost use Rattle.answer.specs.Rows.{◌⇒◌, first};

@@ -1,4 +1,6 @@
 // What masked words do with v0: the lanes that they write, and vmerge.
+#![tactic(auto)]
+
 ghost use Rattle.std.specs.Prelude.{◌≡◌, true, ◌^◌, ◌<◌, ◌≤◌, length};
 ghost use Rattle.isa.specs.Bounds.{vector_registers};
 ghost use Rattle.lanes.specs.Mask.{bit};

@@ -1,4 +1,6 @@
 // Loads and stores of lanes: the test of all their accesses, and then the accesses.
+#![tactic(auto)]
+
 ghost use Rattle.std.specs.Prelude.{◌≡◌, true, not, cond, List, ℕ, ◌^◌, ◌<◌, ◌≤◌, length};
 ghost use Rattle.lanes.specs.Mask.{bit};
 ghost use Rattle.isa.specs.Bounds.{vector_registers};

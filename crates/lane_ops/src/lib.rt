@@ -1,4 +1,6 @@
 // An operation in every lane: a match on the operation, each arm the loop of crate lanes.
+#![tactic(auto)]
+
 ghost use Rattle.std.specs.Prelude.{◌≡◌, ◌^◌, ◌<◌, ◌≤◌, length};
 ghost use Rattle.lanes.specs.Mask.{bit};
 ghost use Rattle.isa.specs.Bounds.{vector_registers};

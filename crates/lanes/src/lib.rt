@@ -1,4 +1,6 @@
 // The vector file, lane by lane.
+#![tactic(auto)]
+
 ghost use Rattle.std.specs.Prelude.{◌≡◌, cond, ◌^◌, ◌<◌, ◌≤◌, length};
 ghost use Rattle.lanes.specs.Mask.{bit};
 ghost use Rattle.isa.specs.Bounds.{vector_registers};

@@ -1,4 +1,6 @@
 // The three files of a launch: their tests, the card's launch and the kernel file's words.
+#![tactic(auto)]
+
 ghost use Rattle.std.specs.Prelude.{◌≡◌, ◌/◌, ◌≤◌, length, take};
 ghost use Rattle.card.specs.Card.{reading_of};
 ghost use Rattle.launch_files.specs.LaunchFiles.{kernel_words_of, files_ok_of, read_files_of};

@@ -1,4 +1,6 @@
 // The public calls that take no step: launch and release. Each answers for all inputs, and asks nothing of its caller.
+#![tactic(auto)]
+
 ghost use Rattle.std.specs.Prelude.{◌≡◌, length, replicate};
 ghost use Rattle.answer.specs.Answer.{number_of};
 ghost use Rattle.lanes.specs.Lanes.{file_words};

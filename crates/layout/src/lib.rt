@@ -1,4 +1,6 @@
 // A warp as words, in the order of a saved state: the places, and the ways from a Warp and back.
+#![tactic(auto)]
+
 ghost use Rattle.std.specs.Prelude.{◌≡◌, ◌++◌, ◌+◌, ◌*◌, ◌≤◌, ◌<◌, length, drop};
 ghost use Rattle.std.proofs.Math.Seq.{paste};
 ghost use Rattle.isa.specs.Bounds.{scalar_registers};

@@ -1,4 +1,6 @@
 // The lines that `./bench` and `./group` print. Each `put_` puts its text into `out`, from index `at` or its start on, and answers the index after it.
+#![tactic(auto)]
+
 ghost use Rattle.std.specs.Prelude.{◌≡◌, ◌++◌, ◌+◌, ◌*◌, ◌≤◌, ◌<◌, length};
 ghost use Rattle.text.specs.Text.{hex_of, decimal_of, line_of};
 ghost use Rattle.text.specs.Puts.{Puts};

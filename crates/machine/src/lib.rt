@@ -1,4 +1,6 @@
 // The public calls of the bench machine that step a warp: step and run. Each answers for all inputs, and asks nothing of its caller. Launch and release are in launch_release.
+#![tactic(auto)]
+
 ghost use Rattle.std.specs.Prelude.{◌≡◌, ◌<◌};
 ghost use Rattle.answer.specs.Answer.{number_of};
 ghost use Rattle.memory.specs.Memories.{alone};

@@ -1,4 +1,6 @@
 // The marking program. Its arguments: `plain` or `show`, the paths of card, kernel and data, and those of one or more sheets.
+#![tactic(auto)]
+
 use files::{CARD_BUFFER, DATA_BUFFER, KERNEL_BUFFER};
 use sheet_lines::SHEET_ROOM;
 use sheet_table::STEPS_ROOM;

@@ -1,4 +1,6 @@
 // The memories' types, and what needs no memory at hand: sizes of accesses, the address of a plain one.
+#![tactic(auto)]
+
 ghost use Rattle.std.specs.Prelude.{◌≡◌, ◌<◌, ◌≤◌};
 ghost use Rattle.isa.specs.declared.Space.TheVariants as spaces;
 ghost use Rattle.memory.specs.Memory.{size_of, width_of};

@@ -1,4 +1,6 @@
 // The program that makes a model sheet. Its arguments: the paths of card, kernel and data, and where the sheet is to go; without that, a table is printed.
+#![tactic(auto)]
+
 use files::{CARD_BUFFER, DATA_BUFFER, KERNEL_BUFFER};
 use sheet_lines::SHEET_ROOM;
 use sheet_table::TABLE_ROOM;

@@ -1,4 +1,6 @@
 // A word with the digits of the pending prefix on its registers, and whether the word takes the prefix.
+#![tactic(auto)]
+
 ghost use Rattle.std.specs.Prelude.{◌≡◌, Bool, ◌&&◌, ◌<◌, ltb};
 ghost use Rattle.isa.specs.declared.Prefix.{Prefix};
 ghost use Rattle.isa.specs.Fields.{fields_of};

@@ -1,1 +1,3 @@
 // The promises: statements in specs/, their proofs in proofs/. No code.
+
+#![tactic(auto)]

@@ -1,4 +1,6 @@
 // The group program: the four files of the folder that it is run in, and the lines to standard output.
+#![tactic(auto)]
+
 use files::{DATA_BUFFER, KERNEL_BUFFER};
 use group_print::{CARDS_BYTES, ROOM};
 

@@ -1,4 +1,6 @@
 // What moves a running warp, on its lent words: registers, PC, prefix and CSRs. Splits are in the crate splits.
+#![tactic(auto)]
+
 ghost use Rattle.std.specs.Prelude.{◌≡◌, List, ℕ, ◌+◌, ◌-◌, ◌*◌, ◌^◌, ◌≤◌, ◌<◌, length, get_or};
 ghost use Rattle.isa.specs.Bounds.{scalar_registers};
 ghost use Rattle.isa.specs.Prefix.{prefix};

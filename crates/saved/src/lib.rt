@@ -1,4 +1,6 @@
 // A warp as 241 words, and back.
+#![tactic(auto)]
+
 ghost use Rattle.std.specs.Prelude.{◌≡◌, ◌+◌};
 ghost use Rattle.answer.specs.Answer.{number_of};
 ghost use Rattle.warp.specs.Warp.{split_count, zero_warp, answered};

@@ -1,4 +1,6 @@
 // The rows of scalar operations: on two registers, or on a register and an immediate.
+#![tactic(auto)]
+
 ghost use Rattle.std.specs.Prelude.{◌≡◌, List, ◌++◌, ℕ, length};
 ghost use Rattle.isa.specs.Fields.{fields_of};
 ghost use Rattle.isa.specs.Table.{word_at};

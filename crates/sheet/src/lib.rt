@@ -1,4 +1,6 @@
 // Answer sheets: a run's own sheet written, and a sheet marked against it.
+#![tactic(auto)]
+
 ghost use Rattle.std.specs.Prelude.{◌≡◌, ◌&&◌, ◌≤◌, length};
 ghost use Rattle.answer.specs.Answer.{number_of};
 ghost use Rattle.memory.specs.Memories.{alone};

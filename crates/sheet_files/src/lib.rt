@@ -1,4 +1,6 @@
 // Marking a sheet, and writing the model sheet, from the files' bytes.
+#![tactic(auto)]
+
 ghost use Rattle.std.specs.Prelude.{◌≡◌};
 ghost use Rattle.answer.specs.Answer.{number_of};
 ghost use Rattle.io.specs.Counts.{IsPrefixLen};

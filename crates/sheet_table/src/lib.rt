@@ -1,4 +1,6 @@
 // The steps of answer sheets in columns. Each inner `put_` puts its text into `out` from index `at` on and answers the index after it.
+#![tactic(auto)]
+
 ghost use Rattle.std.specs.Prelude.{◌≡◌, ◌+◌, ◌*◌, ◌≤◌, ◌<◌, length};
 ghost use Rattle.io.specs.Counts.{IsPrefixLen};
 ghost use Rattle.sheet_lines.specs.Sheet.{line_size, step_limit, steps_in};

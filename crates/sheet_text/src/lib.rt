@@ -1,4 +1,6 @@
 // The lines that a teacher reads of answer sheets. Each inner `put_` puts its text into `out` from index `at` on and answers the index after it.
+#![tactic(auto)]
+
 ghost use Rattle.std.specs.Prelude.{◌≡◌, ◌+◌, ◌≤◌, length};
 ghost use Rattle.io.specs.Counts.{IsPrefixLen};
 ghost use Rattle.text.specs.Text.{decimal_of};

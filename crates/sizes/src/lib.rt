@@ -1,4 +1,6 @@
 // The tests of the sizes that are lent with a warp.
+#![tactic(auto)]
+
 ghost use Rattle.std.specs.Prelude.{◌≡◌};
 ghost use Rattle.memory.specs.Memories.{contents, memories_ok_of};
 ghost use Rattle.definition.specs.State.{memories_in};

@@ -1,4 +1,6 @@
 // The bench program's work on the examples, on wrong, missing, empty and oversized files, and on the largest that are taken; each folder is a case.
+#![tactic(auto)]
+
 fn case(card: &[u8], kernel: &[u8], bytes: &[u8]) {
     let mut vector = [0u32; 8192];
     files::run_files(card, kernel, bytes, &mut vector);

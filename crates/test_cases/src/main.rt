@@ -1,4 +1,6 @@
 // Runs the machine on the stored cases and writes a line for each. reference/CASES-FORMAT.md says what a case file holds and what a line says.
+#![tactic(auto)]
+
 use test_io::STATE_WORDS;
 use warp::Launch;
 

@@ -1,4 +1,6 @@
 // Decodes the words of its input, four bytes each, and writes a line for each: what it is, its op's number, its fields.
+#![tactic(auto)]
+
 ghost use Rattle.std.specs.Prelude.{◌<◌};
 
 use isa::{CsrOp, Instr, LoadOp, Source, Space, StoreOp};

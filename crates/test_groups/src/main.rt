@@ -1,6 +1,8 @@
 // Calls a group's launch, step and run on the stored cases and writes a line for each. reference/CASES-FORMAT.md says what a case file holds and what a line says.
 
 // The kinds of a case that launches a group and then runs it and of one that steps a saved group; the others run a saved group.
+#![tactic(auto)]
+
 const LAUNCH: u32 = 10;
 
 const STEP: u32 = 11;

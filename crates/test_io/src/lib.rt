@@ -1,4 +1,6 @@
 // The parts of a stored case read, digests, and the line written for a case. reference/CASES-FORMAT.md says what a case file holds and what a line says.
+#![tactic(auto)]
+
 ghost use Rattle.std.specs.Prelude.{◌≡◌, ◌<◌, length};
 ghost use Rattle.io.specs.Counts.{IsPrefixLen};
 

@@ -1,6 +1,8 @@
 // Calls marking and the model sheet on the stored cases and writes a line for each. reference/CASES-FORMAT.md says what a case file holds and what a line says.
 
 // The kind of a case that marks a sheet; the others write one.
+#![tactic(auto)]
+
 const MARK: u32 = 8;
 
 // The words and bytes of a result, a written and a target before the call.

@@ -1,4 +1,6 @@
 // Numbers and lines as ASCII bytes: each `put_` puts its own into `out` from index `at` on, and answers the index after them.
+#![tactic(auto)]
+
 ghost use Rattle.std.specs.Prelude.{◌≡◌, ◌+◌, ◌-◌, ◌<◌, ◌≤◌, [], ◌∷◌, length, replicate};
 ghost use Rattle.text.specs.Text.{digit_of, hex_digits, hex_of, decimal_of, right_of, line_of};
 ghost use Rattle.text.specs.Puts.{Puts};

@@ -1,5 +1,7 @@
 // The vector words' kinds, by funct3, then funct6; whether a word is masked, its handler reads from it. A form that a row lacks is an arm of
 // its own: the compiler then makes one table of a form's arms and the rows' (docs/SPEED.md).
+#![tactic(auto)]
+
 ghost use Rattle.std.specs.Prelude.{◌≡◌, ℕ};
 ghost use Rattle.isa.specs.declared.Instr.TheVariants.{Refused};
 ghost use Rattle.isa.specs.Fields.{fields_of};

@@ -1,3 +1,5 @@
+#![tactic(auto)]
+
 ghost use Rattle.std.specs.Prelude.{◌≡◌, ◌^◌, ◌≤◌};
 ghost use Rattle.lanes.specs.Lanes.{lanes_max};
 ghost use Rattle.isa.specs.Prefix.{no_prefix};

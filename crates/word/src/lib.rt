@@ -1,4 +1,6 @@
 // The 32-bit word operations that scalar and lane instructions share.
+#![tactic(auto)]
+
 ghost use Rattle.std.specs.Prelude.{◌≡◌, ◌^◌, ◌<◌, ◌≤◌, if◌then◌else◌, nat_lt};
 ghost use Rattle.word.specs.Word.{signed, as_word, less_of, flag_of, add_of, sub_of, sll_of, srl_of, sra_of, mul_of, mulh_of, mulhsu_of, mulhu_of, div_of, divu_of, rem_of, remu_of, apply_of, holds_of, extend_of};
 

@@ -1,0 +1,7 @@
+use native.Mathlib.Nat.{div-one}
+use Rattle.big_endian.specs.BigEndian.{be_bytes}
+use Rattle.big_endian.proofs.put_byte.Goals as goal
+
+pub returns : goal.returns
+unfolding be_bytes
+returns c = rw div-one

@@ -1,0 +1,5 @@
+use Prim.Native.Nat.{◌-◌}
+use Rattle.text.proofs.+put_hex_digits.Given as goal
+
+abbrev pub decreases-put_hex_digits : goal.decreases-put_hex_digits
+decreases-put_hex_digits l = l.k
