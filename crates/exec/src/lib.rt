@@ -108,7 +108,7 @@ fn exec(
 // ---- the step
 
 // Why the word at the PC can't be looked at, or 0 and the word.
-#[derive(Drop)]
+#[derive(Clone, Copy)]
 pub struct Word {
     pub code: u32,
     pub word: u32,
@@ -157,7 +157,7 @@ pub fn fetch(h: &[u32; MOVING], g: &[u32; FIXED], k: &[u32]) -> Word
 }
 
 // Why a word that was fetched isn't run, or 0 and the word with the numbers of its registers above it.
-#[derive(Drop)]
+#[derive(Clone, Copy)]
 pub struct WideWord {
     pub code: u32,
     pub word: u64,

@@ -1,7 +1,7 @@
 -- The test of well-formedness, word by word.
 use Prim.Native.Nat.{ℕ, zero, suc, ◌+◌, ◌-◌, ◌*◌, ◌<◌, ◌≤◌}
 use mathlib.Core.Path.{◌≡◌, refl, sym, ◌∙◌, ap}
-use mathlib.Core.Bool.{Bool, true, false, not, ◌&&◌, ◌||◌, and_true, and-false, and_assoc}
+use mathlib.Core.Bool.{Bool, true, false, not, ◌&&◌, ◌||◌, and-true, and-false, and_assoc}
 use mathlib.Core.List.{List, [], ◌∷◌}
 use native.Mathlib.Omega.{arith}
 use native.Mathlib.Numerals.{add-one}
@@ -70,7 +70,7 @@ gather s any i h =
 
 pub gathered : (s : List ℕ) (any i : ℕ) → flat_count ≤ i → (eqb any 0 && zeros_from s i (flat_count - i)) ≡ eqb any 0
 unfolding zeros_from
-gathered s any i h = let n : flat_count - i ≡ 0 = omega arith in rw n (and_true (eqb any 0))
+gathered s any i h = let n : flat_count - i ≡ 0 = omega arith in rw n (and-true (eqb any 0))
 
 same_zero : (n : ℕ) → not (is_set n) ≡ eqb n 0
 same_zero n = not_not (eqb n 0)
@@ -88,7 +88,7 @@ record_zero s d n =
     let i3 : d * split_size + 2 + 1 ≡ d * split_size + 3 = omega arith in
     let i4 : d * split_size + 3 + 1 ≡ d * split_size + 4 = omega arith in
     let i5 : d * split_size + 4 + 1 ≡ (d + 1) * split_size = omega arith in
-    rw (m, i2, i3, i4, i5, same_zero (phase_at s d)) (simp (and_assoc, and_true))
+    rw (m, i2, i3, i4, i5, same_zero (phase_at s d)) (simp (and_assoc, and-true))
 
 zeros_none : (s : List ℕ) (i : ℕ) → true ≡ zeros_from s i 0
 unfolding zeros_from
@@ -129,8 +129,8 @@ tests : (e w f a z u o p p' c q r t : Bool) → (u ≡ true → p ≡ p')
     → (e && (w && (f && (a && (z && (u && (o && ((p' && c) && (q && (r && t)))))))))) ≡ ((e && (w && (p && true))) && (f && (a && (z && (u && (o && (c && (q && (r && (t && true))))))))))
 tests false w f a z u o p p' c q r t h = refl
 tests true false f a z u o p p' c q r t h = refl
-tests true true f a z false o p p' c q r t h = simp (and-false, and_true)
-tests true true f a z true o p true c q r t h = rw (h refl) (simp and_true)
+tests true true f a z false o p p' c q r t h = simp (and-false, and-true)
+tests true true f a z true o p true c q r t h = rw (h refl) (simp and-true)
 tests true true f a z true o p false c q r t h = rw (h refl) (simp and-false)
 
 module _ (g h x s : List ℕ) where

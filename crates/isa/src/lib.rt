@@ -8,13 +8,13 @@ pub mod masked;
 use word::{Cond, Op};
 
 // A scalar register and a vector register: never interchanged.
-#[derive(Drop)]
+#[derive(Clone, Copy)]
 pub struct XReg(pub u8);
 
-#[derive(Drop)]
+#[derive(Clone, Copy)]
 pub struct VReg(pub u8);
 
-#[derive(Drop)]
+#[derive(Clone, Copy)]
 pub enum LoadOp {
     B,
     H,
@@ -23,14 +23,14 @@ pub enum LoadOp {
     Hu,
 }
 
-#[derive(Drop)]
+#[derive(Clone, Copy)]
 pub enum StoreOp {
     B,
     H,
     W,
 }
 
-#[derive(Drop)]
+#[derive(Clone, Copy)]
 pub enum CsrOp {
     Rw,
     Rs,
@@ -38,7 +38,7 @@ pub enum CsrOp {
 }
 
 // A vector word's last operand; which it is, is the word's form: VV, VX or VI. A VI form's immediate has 5 bits, behind REGEXTI 11 (Long).
-#[derive(Drop)]
+#[derive(Clone, Copy)]
 pub enum Source {
     V(VReg),
     X(XReg),
@@ -47,7 +47,7 @@ pub enum Source {
 }
 
 // A masked word (vm = 0) writes only where v0's word has bit 0 set.
-#[derive(Drop)]
+#[derive(Clone, Copy)]
 pub struct VecArgs {
     pub vd: VReg,
     pub vs2: VReg,
@@ -57,14 +57,14 @@ pub struct VecArgs {
 
 // A pending prefix: its kind, 0 where none is pending, 1 REGEXT, 2 REGEXTI, and its 12 bits.
 #[repr(C)]
-#[derive(Drop)]
+#[derive(Clone, Copy)]
 pub struct Prefix {
     pub kind: u32,
     pub bits: u32,
 }
 
 // What an access by lanes reads or writes: data, or each thread's private part of it.
-#[derive(Drop)]
+#[derive(Clone, Copy)]
 pub enum Space {
     Plain,
     Private,
@@ -72,7 +72,7 @@ pub enum Space {
 
 // Destination first, then rs1, then rs2 (a store: its base, then what it stores), then the immediate as the raw field. A vector word's vs2 comes
 // before its last operand; vid.v says first whether it is masked.
-#[derive(Drop)]
+#[derive(Clone, Copy)]
 pub enum Instr {
     Refused,
     Lui(XReg, u32),

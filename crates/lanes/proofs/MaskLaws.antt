@@ -1,6 +1,6 @@
 -- Laws of lane masks: a mask cut in two, and the mask of the lanes where a test holds.
 use mathlib.Core.Path.{◌≡◌, refl, sym, ap, ap₂, ◌∙◌}
-use mathlib.Core.Bool.{Bool, true, false, not, ◌&&◌, and_true, and-false, and_self_left}
+use mathlib.Core.Bool.{Bool, true, false, not, ◌&&◌, and-true, and-false, and_self_left}
 use mathlib.Core.Logic.{⊎_elim}
 use mathlib.Core.List.{List}
 use Prim.Native.Nat.{ℕ, zero, suc, ◌+◌, ◌-◌, ◌*◌, ◌/◌, ◌%◌, ◌^◌, ◌≤◌, ◌<◌, min}
@@ -151,7 +151,7 @@ mask_zero q (suc n) = turn (q (lane n)) (mask_of n q) (all_lanes n (λ l. not (q
   where
     turn : (t : Bool) (m : ℕ) (a : Bool) → eqb m 0 ≡ a → eqb (step_if t (λ (k : ℕ). k + 2 ^ n) m) 0 ≡ (a && not t)
     turn true m a e = ne_eqb (m + 2 ^ n) 0 (λ z. omega (arith, pow_pos n)) ∙ sym (and-false a)
-    turn false m a e = e ∙ sym (and_true a)
+    turn false m a e = e ∙ sym (and-true a)
 
 -- ---- the lanes of m where a test holds, e, and the rest, m - e
 module _ (m n : ℕ) (p : Lane → Bool) (h : m < 2 ^ n) where

@@ -13,11 +13,11 @@ use word::{Cond, Op};
 pub const LANES: usize = 32;
 
 // A lane's number. With VReg a type of its own, the two can't change places.
-#[derive(Drop)]
+#[derive(Clone, Copy)]
 pub struct Lane(pub usize);
 
 // A vector word's last operand: a register's lane, or one word for all lanes.
-#[derive(Drop)]
+#[derive(Clone, Copy)]
 pub enum Operand {
     Reg(VReg),
     Word(u32),
@@ -233,7 +233,7 @@ fn value(mask: u32, n: usize, a: &[u32; LANES]) -> u32
 }
 
 // What the lanes of a mask hold: whether it is one word, and that of the last of them.
-#[derive(Drop)]
+#[derive(Clone, Copy)]
 pub struct Shared {
     pub uniform: bool,
     pub value: u32,

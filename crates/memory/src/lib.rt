@@ -9,14 +9,14 @@ ghost use Rattle.memory.specs.Address.{plain_of, offset_limit};
 use isa::{LoadOp, StoreOp};
 
 // What a scalar load finds.
-#[derive(Drop)]
+#[derive(Clone, Copy)]
 pub enum Loaded {
     Found(u32),
     Outside,
 }
 
 // What a private address takes from the launch.
-#[derive(Drop)]
+#[derive(Clone, Copy)]
 pub struct Private {
     pub numt: u32,
     pub pds: u32,

@@ -1,7 +1,7 @@
 -- A sheet's bytes as code puts and tests them.
 use Prim.Native.Nat.{ℕ, ◌+◌, ◌-◌, ◌%◌, ◌<◌, ◌≤◌}
 use mathlib.Core.Path.{◌≡◌, refl, sym, ap, ◌∙◌}
-use mathlib.Core.Bool.{Bool, true, false, ◌&&◌, and_true, and-false}
+use mathlib.Core.Bool.{Bool, true, false, ◌&&◌, and-true, and-false}
 use mathlib.Core.List.{List, ◌++◌}
 use native.Mathlib.Omega.{arith}
 use native.Mathlib.Nat.{div-one, mod-mod}
@@ -48,4 +48,4 @@ module _ (s : List ℕ) where
   pub sheet_tests : (x y : ℕ) → x ≡ version_in s → y ≡ length_in s → head_size ≤ length s → steps_in s ≤ step_limit
       → (eqb x sheet_version && (eqb y (length s - 4) && eqb y (length_of (steps_in s)))) ≡ sheet_ok_of s
   unfolding sheet_ok_of
-  sheet_tests x y p q h f = rw (p, q) (simp (le-leb head_size (length s) h, le-leb (steps_in s) step_limit f, and_true))
+  sheet_tests x y p q h f = rw (p, q) (simp (le-leb head_size (length s) h, le-leb (steps_in s) step_limit f, and-true))

@@ -22,7 +22,7 @@ const VERSION: u32 = 1;
 pub const SHEET_ROOM: usize = HEAD_SIZE + LINE_SIZE * STEP_LIMIT;
 
 // What a sheet is worth; the differing step counts from 1.
-#[derive(Drop)]
+#[derive(Clone, Copy)]
 pub enum Marks {
     NoMarks,
     Full,

@@ -5,7 +5,7 @@ use test_io::STATE_WORDS;
 use warp::Launch;
 
 // The kinds of case, by their numbers 1 to 7.
-#[derive(Drop)]
+#[derive(Clone, Copy)]
 enum Kind {
     Launch,
     Saved,

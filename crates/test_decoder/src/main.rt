@@ -6,7 +6,7 @@ ghost use Rattle.std.specs.Prelude.{◌<◌};
 use isa::{CsrOp, Instr, LoadOp, Source, Space, StoreOp};
 use word::{Cond, Op};
 
-#[derive(Drop)]
+#[derive(Clone, Copy)]
 struct Parts {
     kind: [u8; 2],
     op: u8,

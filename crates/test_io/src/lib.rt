@@ -110,7 +110,7 @@ fn read_entries(group: bool, file: i32, to: &mut [u32], n: u32) {
 // ---- stored and generated words and bytes
 
 // What words are: the input's next ones, one word again and again, or a vector file's by its base and mask.
-#[derive(Drop)]
+#[derive(Clone, Copy)]
 enum Words {
     Stored,
     Same(u32),

@@ -17,7 +17,7 @@ pub const SPLITS: usize = 31;
 
 // An open split: the lanes of elseMask want elsePc; in phase two they run.
 #[repr(C)]
-#[derive(Drop)]
+#[derive(Clone, Copy)]
 pub struct Split {
     pub rpc: u32,
     pub full: u32,
@@ -28,7 +28,7 @@ pub struct Split {
 
 // What a launch sets and no step changes.
 #[repr(C)]
-#[derive(Drop)]
+#[derive(Clone, Copy)]
 pub struct Fixed {
     pub numt: u32,
     pub numw: u32,
@@ -46,7 +46,7 @@ pub struct Fixed {
 }
 
 #[repr(C)]
-#[derive(Drop)]
+#[derive(Clone, Copy)]
 pub struct Launch {
     pub fixed: Fixed,
     pub entry: u32,
@@ -54,7 +54,7 @@ pub struct Launch {
 
 // depth counts the open splits; the last of them is splits[depth - 1].
 #[repr(C)]
-#[derive(Drop)]
+#[derive(Clone, Copy)]
 pub struct Warp {
     pub x: [u32; 64],
     pub splits: [Split; 31],

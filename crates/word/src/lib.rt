@@ -5,7 +5,7 @@ ghost use Rattle.std.specs.Prelude.{◌≡◌, ◌^◌, ◌<◌, ◌≤◌, if�
 ghost use Rattle.word.specs.Word.{signed, as_word, less_of, flag_of, add_of, sub_of, sll_of, srl_of, sra_of, mul_of, mulh_of, mulhsu_of, mulhu_of, div_of, divu_of, rem_of, remu_of, apply_of, holds_of, extend_of};
 
 // What an instruction does with two words. Slt and Sltu are a lane compare too; the names from Seq on are lane compares.
-#[derive(Drop)]
+#[derive(Clone, Copy)]
 pub enum Op {
     Add,
     Sub,
@@ -39,7 +39,7 @@ pub enum Op {
 }
 
 // The six conditions of a branch, scalar or by lanes.
-#[derive(Drop)]
+#[derive(Clone, Copy)]
 pub enum Cond {
     Eq,
     Ne,

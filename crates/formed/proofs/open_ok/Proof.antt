@@ -1,4 +1,4 @@
-use mathlib.Core.Bool.{and_true}
+use mathlib.Core.Bool.{and-true}
 use Rattle.warp.specs.WellFormed.{split_ok_of}
 use borrow.Author.Rules.{rules}
 use Rattle.formed.proofs.open_ok.Statement.{statement}
@@ -6,7 +6,7 @@ use Rattle.formed.proofs.open_ok.Tie as tie
 
 returns : tie.Need-returns
 unfolding split_ok_of
-returns c = simp (c.before.running-part.ensures, and_true)
+returns c = simp (c.before.running-part.ensures, and-true)
 
 pub open-ok-spec : {M : Type 1} → statement M
 open-ok-spec =

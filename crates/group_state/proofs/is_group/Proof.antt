@@ -1,4 +1,4 @@
-use mathlib.Core.Bool.{and-false, and_true}
+use mathlib.Core.Bool.{and-false, and-true}
 use native.Mathlib.Omega.{arith}
 use borrow.Author.Rules.{rules}
 use borrow.Author.Tests.{eq-eqb, lt-leb, le-leb}
@@ -13,4 +13,4 @@ is-group-spec =
     (λ c. search rules)
     (λ c. simp (lt-leb _ _ c.if2.true, and-false))
     (λ c. search rules) (λ c. search rules)
-    (λ c. simp (le-leb _ _ c.if2.false, and_true)))
+    (λ c. simp (le-leb _ _ c.if2.false, and-true)))

@@ -1,4 +1,4 @@
-use mathlib.Core.Bool.{and_true}
+use mathlib.Core.Bool.{and-true}
 use borrow.Author.Rules.{rules}
 use Rattle.group_words.proofs.in_place.Statement.{statement}
 use Rattle.group_words.proofs.in_place.Tie as tie
@@ -9,4 +9,4 @@ in-place-spec =
     (tie.spec
     (λ c. search rules) (λ c. search rules) (λ c. search rules) (λ c. search rules) (λ c. search rules) (λ c. search rules)
     (λ c. search rules) (λ c κs. search rules) (λ c. search rules) (λ c κs. search rules) (λ c. search rules) (λ c. search rules)
-    (λ c. let w = c.before.before in simp (w.wide2.ensures, w.before.before.wide.ensures, and_true)))
+    (λ c. let w = c.before.before in simp (w.wide2.ensures, w.before.before.wide.ensures, and-true)))

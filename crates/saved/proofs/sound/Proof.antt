@@ -1,4 +1,4 @@
-use mathlib.Core.Bool.{and_true}
+use mathlib.Core.Bool.{and-true}
 use Rattle.layout.specs.Words.{sound_of}
 use borrow.Author.Rules.{rules}
 use Rattle.saved.proofs.sound.Statement.{statement}
@@ -6,7 +6,7 @@ use Rattle.saved.proofs.sound.Tie as tie
 
 returns : tie.Need-returns
 unfolding sound_of
-returns c = simp (c.before.before.before.phases-ok.ensures, and_true)
+returns c = simp (c.before.before.before.phases-ok.ensures, and-true)
 
 pub sound-spec : {M : Type 1} → statement M
 sound-spec =
