@@ -107,7 +107,7 @@ module _ (k : List ℕ) (t : ℕ) (w : Warp) (v : List ℕ) (c : Contents) where
   unfolding all_ended
   lone_passes l =
       let m : Group = group t (w ∷ []) v c in
-      let n : length v ≡ file_words = (sizes w.fixed k v c l.sizes).file-is in
+      let n : length v ≡ file_words = (sizes w.fixed k v c l.sizes).file_is in
       let f : file_at 0 v ≡ v = take_all file_words v (omega arith) in
       let g : GroupFit k m = record {
         some = omega arith;

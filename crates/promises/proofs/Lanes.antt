@@ -123,7 +123,7 @@ module _ (k : List ℕ) (m : State) (u : List ℕ) (long : length m.vector ≡ l
   alone i a b z l h s (moves e) = s
   alone i a b z l h s (gives {on = on} {on' = on'} {r = c} {f = f} {g = g} w e) =
       let t = step_clear k m z in
-      let n = (sizes (fixed_of m) k m.vector m.bytes t.runs).file-is in
+      let n = (sizes (fixed_of m) k m.vector m.bytes t.runs).file_is in
       write_alike (fixed_of m).numt on on' c f g m.vector u l (fixed_of_lem m.warp t.formed).lanes.1 n (sym long ∙ n) h (e l s).0 (e l s).1 s
   alone i a b z l h s (stores_both t e) = s
 

@@ -127,7 +127,7 @@ launch_sound k l s v c q =
       formed = well (launched_of l) (formed_launch l p.1);
       splits = refl;
       registers = refl;
-      runs = sizes_kept l.fixed k v c (replicate file_words 0) c (sym (sizes l.fixed k v c p.0).file-is) (λ r. refl) ∙ p.0;
+      runs = sizes_kept l.fixed k v c (replicate file_words 0) c (sym (sizes l.fixed k v c p.0).file_is) (λ r. refl) ∙ p.0;
       fixed = refl;
     })
 

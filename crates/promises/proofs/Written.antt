@@ -110,7 +110,7 @@ lane_words k m z l a = record { given = given; others = λ r o. rw (step_taken k
     below = lt_of_lt_of_le (active_below m l a).0 lanes
 
     long : length m.vector ≡ file_words
-    long = (sizes (fixed_of m) k m.vector m.bytes (step_clear k m z).runs).file-is
+    long = (sizes (fixed_of m) k m.vector m.bytes (step_clear k m z).runs).file_is
 
     given : (r : VReg) (y : ℕ) → r.0 < vector_registers → Gives m l (instr_at k m) r y → lane_of (step_of k m).left.vector r l ≡ y
     given r y b g =

@@ -1,38 +1,36 @@
+use mathlib.Core.List.{List}
+use mathlib.Core.Bool.{true}
+use Prim.Native.Nat.{ℕ}
 use mathlib.Core.Path.{◌≡◌, refl, ap, ◌∙◌}
 use Prim.Native.Nat.{◌+◌, ◌≤◌}
 use lib.ListN.{length}
 use Rattle.word.specs.Word.{extend_of}
 use Rattle.isa.specs.declared.LoadOp.{LoadOp}
-use Rattle.memory.specs.Memory.{memory, size_of, index_in}
+use Rattle.memory.specs.Memory.{memory, inside_of, size_of, index_in}
 use Rattle.memory.proofs.Access.{inside_true}
 use Rattle.access.proofs.load_at.Goals as goal
 
 -- an access at an operation that is known lies inside
-fits : (s : goal.Start) {k : LoadOp} → s.args.k ≡ k →
-    let g = s.args in
-    (g.base ≤ g.a) × (index_in (memory g.base g.d.now) g.a + size_of k ≤ length g.d.now)
-fits s {k} e =
-    let g = s.args in
-    inside_true (memory g.base g.d.now) (size_of k) g.a (rw e at s.requires)
-
+fits : (base a : ℕ) (d : List ℕ) {k o : LoadOp} → inside_of (memory base d) (size_of o) a ≡ true → o ≡ k → (base ≤ a) × (index_in (memory base d) a + size_of k ≤ length d)
+fits base a d {k} h e = inside_true (memory base d) (size_of k) a (rw e at h)
 
 pub overflow_sub-i : goal.overflow_sub-i
-overflow_sub-i c = (fits c.before refl).0
+overflow_sub-i c = (fits c.args.base c.args.a c.args.d.now c.requires refl).0
 
 pub byte_at-requires : goal.byte_at-requires
-byte_at-requires c = (fits c.before.before.before c.in-B.is).1
+byte_at-requires c = (fits c.args.base c.args.a c.args.d.now c.requires c.in-B.is).1
 
 pub half_at-requires : goal.half_at-requires
-half_at-requires c = (fits c.before.before.before c.in-H.is).1
+half_at-requires c = (fits c.args.base c.args.a c.args.d.now c.requires c.in-H.is).1
 
 pub word_at-requires : goal.word_at-requires
-word_at-requires c = (fits c.before.before.before c.in-W.is).1
+word_at-requires c = (fits c.args.base c.args.a c.args.d.now c.requires c.in-W.is).1
 
 pub byte_at-requires-in-Bu : goal.byte_at-requires-in-Bu
-byte_at-requires-in-Bu c = (fits c.before.before.before c.in-Bu.is).1
+byte_at-requires-in-Bu c = (fits c.args.base c.args.a c.args.d.now c.requires c.in-Bu.is).1
 
 pub half_at-requires-in-Hu : goal.half_at-requires-in-Hu
-half_at-requires-in-Hu c = (fits c.before.before.before c.in-Hu.is).1
+half_at-requires-in-Hu c = (fits c.args.base c.args.a c.args.d.now c.requires c.in-Hu.is).1
 
 pub returns-in-B : goal.returns-in-B
 returns-in-B c = rw c.in-B.is (c.extend.ensures ∙ ap (extend_of 8) c.byte_at.ensures.0)

@@ -29,7 +29,7 @@ returns-2 c =
     let a = (start e).args in (
       omega arith,
       rw (two_words a.out.now 0 0 e.if1.left)
-          (run_size a.state.now a.kernel.now a.vector.now (contents a.bytes.now a.local.now) a.out.now a.budget e.if1.left (sym g.is_group_lem.ensures ∙ not-true _ c.if2.true)),
+          (run_size a.state.now a.kernel.now a.vector.now (contents a.bytes.now a.local.now) a.out.now a.budget e.if1.left (sym g.is_group.ensures ∙ not-true _ c.if2.true)),
     )
 
 returns-3 : tie.Need-returns-3
@@ -50,7 +50,7 @@ bench-group-run-spec =
     returns
     (λ c κs. search rules) (λ c. search rules) (λ c. search rules) (λ c. search rules) (λ c. search rules)
     returns-2
-    (λ c κs. let l = c.before.before.before.before in sym l.before.is_group_lem.ensures ∙ not-false _ l.if2.false)
+    (λ c κs. let l = c.before.before.before.before in sym l.before.is_group.ensures ∙ not-false _ l.if2.false)
     (λ c. search rules)
     (λ c.
     let r = c.before.before.before.before.before.before.before.before in

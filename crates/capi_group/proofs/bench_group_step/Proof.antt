@@ -22,7 +22,7 @@ returns-2 c =
     let e = roomy g in
     let a = (start e).args in
     rw (one_word a.stopped.now 0 e.if1.left)
-    (step_size a.state.now a.kernel.now a.vector.now (contents a.bytes.now a.local.now) a.stopped.now e.if1.left (sym g.is_group_lem.ensures ∙ not-true _ c.if2.true))
+    (step_size a.state.now a.kernel.now a.vector.now (contents a.bytes.now a.local.now) a.stopped.now e.if1.left (sym g.is_group.ensures ∙ not-true _ c.if2.true))
 
 returns-3 : tie.Need-returns-3
 returns-3 c =
@@ -40,6 +40,6 @@ bench-group-step-spec =
     returns
     (λ c κs. search rules) (λ c. search rules) (λ c. search rules) (λ c. search rules)
     returns-2
-    (λ c κs. let l = c.before.before.before.before in sym l.before.is_group_lem.ensures ∙ not-false _ l.if2.false)
+    (λ c κs. let l = c.before.before.before.before in sym l.before.is_group.ensures ∙ not-false _ l.if2.false)
     (λ c. search rules) (λ c. search rules) (λ c. search rules) (λ c. search rules) (λ c. search rules) (λ c. search rules)
     returns-3)

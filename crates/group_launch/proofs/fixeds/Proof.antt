@@ -38,7 +38,7 @@ fixeds-spec =
     let r = c.before.before.before in (
       omega (arith, l.loop-test.taken),
       simp length-set v.1,
-      fixing_more l.before.loop.i l.before.loop.gs l.before.before.before.args.cards.now r.read_at.result c.fixed_of_lem.result (omega (arith, below l, v.1)) v.2 r.read_at.ensures c.fixed_of_lem.ensures,
+      fixing_more l.before.loop.i l.before.loop.gs l.before.before.before.args.cards.now r.read_at.result c.fixed_of.result (omega (arith, below l, v.1)) v.2 r.read_at.ensures c.fixed_of.ensures,
     ))
     (λ c.
     let k = c.before in

@@ -20,5 +20,5 @@ fixeds-spec =
     (tie.spec invariant-loop decreases-loop
     (λ c. (omega arith, fixeds_none _ _ (search rules)))
     (λ c. search rules) (λ c. search rules) (λ c κs. search rules) (λ c. search rules) (λ c. search rules) (λ c. search rules) (λ c. search rules)
-    (λ c. let l = c.before.before.before.before in (omega arith, fixeds_on_lem _ _ _ l.loop.invariant.1 (search rules) _ c.fixed_of_lem.ensures))
+    (λ c. let l = c.before.before.before.before in (omega arith, fixeds_on_lem _ _ _ l.loop.invariant.1 (search rules) _ c.fixed_of.ensures))
     (λ c. let k = c.before in let s = k.before in subst (λ (i : ℕ). Fixeds i s.args.t1 k.loop.gs) (le_antisymm k.loop.invariant.0 c.loop-test.false) k.loop.invariant.1))

@@ -35,7 +35,7 @@ returns-2 c =
     let s = few.before.before.before.before.before.before in
     let a = s.args in
     let e = too_large a.cards.now a.kernel.now a.bytes.now a.local.now few.if1.false (sym ok.files-ok.ensures ∙ not-true _ large.if2.true) in
-    let p = puts_as (e ∙ ap code_line (sym code.cards_code_lem.ensures)) put.put-code-line2.ensures.0 in
+    let p = puts_as (e ∙ ap code_line (sym code.cards_code.ensures)) put.put-code-line2.ensures.0 in
     (counted p (omega (arith, put.put-code-line2.ensures.1)) s.requires, p)
 
 abbrev start : tie.Else2 → tie.Start

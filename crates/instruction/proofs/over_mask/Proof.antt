@@ -51,7 +51,7 @@ over-mask-spec =
     tie.close
     (tie.spec
     (λ c. search rules) (λ c κs. search rules) (λ c κs. search rules) (λ c. search rules) (λ c κs. search rules) (λ c. search rules) (λ c κs. search rules)
-    (λ c. let r = c.before in rw (r.before.before.before.i.given.1, r.before.is_v0_lem.ensures, r.is_compare_lem.ensures))
+    (λ c. let r = c.before in rw (r.before.before.before.i.given.1, r.before.is_v0.ensures, r.is_compare.ensures))
     (λ c. rw (c.before.before.i2.given.1, c.is-v02.ensures))
     (λ c. rw (c.before.before.i3.given.1, c.is-v03.ensures))
     (λ c. no-mask c.before.args.i c.match.keys4))

@@ -18,7 +18,7 @@ register-word-spec =
     (λ c κs. search rules) (λ c κs. search rules) (λ c κs. search rules) (λ c κs. search rules) (λ c κs. search rules) (λ c κs. search rules)
     (λ c κs. search rules) (λ c κs. search rules) (λ c κs. search rules) (λ c κs. search rules) (λ c κs. search rules) (λ c κs. search rules)
     (λ c κs. search rules)
-    (λ c. c.of_registers_lem.ensures ∙ simp c.before.match.keys1)
+    (λ c. c.of_registers.ensures ∙ simp c.before.match.keys1)
     (λ c. c.of-registers2.ensures ∙ simp c.before.match.keys2)
     (λ c. c.of-registers3.ensures ∙ simp c.before.match.keys3)
     (λ c. c.of-registers4.ensures ∙ simp c.before.match.keys4)

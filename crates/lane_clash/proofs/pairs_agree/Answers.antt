@@ -1,6 +1,5 @@
 use mathlib.Core.Path.{◌≡◌, sym, subst, ◌∙◌}
 use mathlib.Core.Bool.{true, true≢false}
-use mathlib.Core.Logic.{⊎_elim}
 use Prim.Native.Nat.{ℕ, ◌-◌}
 use native.Mathlib.Nat.{le_antisymm}
 use native.Mathlib.Omega.{arith}
@@ -10,6 +9,7 @@ use Rattle.lanes.specs.Lanes.{all_below}
 use Rattle.lanes.proofs.Laws.{below_none, below_more, below_not, ok_when}
 use Rattle.lane_clash.proofs.pairs_agree.Invariants.{of_lane}
 use Rattle.lane_clash.proofs.pairs_agree.Goals as goal
+use Rattle.lane_clash.proofs.pairs_agree.Goals.{then-active+else-not-lane_agrees, else-active}
 
 pub loop-l-init : goal.loop-l-init
 loop-l-init c = (omega arith, below_none _)
@@ -22,17 +22,17 @@ lane_agrees-requires c =
 pub returns-then-not-lane_agrees : goal.returns-then-not-lane_agrees
 returns-then-not-lane_agrees c = 
     let g = c.args in
-    sym (below_not g.n (of_lane g.w g.mask g.n g.o.now g.x.now) c.loop-l.l (omega arith) (rw (sym c.active.ensures ∙ c.if-active.true) (sym c.lane_agrees.ensures ∙ not-true _ c.if-not-lane_agrees.true)))
+    sym (below_not g.n (of_lane g.w g.mask g.n g.o.now g.x.now) c.loop-l.l (omega arith) (rw (sym c.active.ensures ∙ c.if-active.true) (sym c.lane_agrees.ensures ∙ c.if-not-lane_agrees.true)))
 
 pub loop-l-preserved : goal.loop-l-preserved
 loop-l-preserved c = 
     let g = c.args in (
       omega arith,
       below_more (of_lane g.w g.mask g.n g.o.now g.x.now) c.loop-l.l c.loop-l.invariant.1
-          (⊎_elim
-          (λ w. ok_when (bit g.mask (lane c.loop-l.l)) _ (λ t. sym w.1.ensures ∙ not-false _ w.2.left))
-          (λ w. ok_when (bit g.mask (lane c.loop-l.l)) _ (λ t. absurd (true≢false (sym t ∙ sym c.active.ensures ∙ w.left))))
-          c.if-active.branch),
+          (elim c.if-active.branch [
+            then-active+else-not-lane_agrees w ↦ ok_when (bit g.mask (lane c.loop-l.l)) _ (λ t. sym w.lane_agrees.ensures ∙ w.if-not-lane_agrees.false)
+          | else-active w ↦ ok_when (bit g.mask (lane c.loop-l.l)) _ (λ t. absurd (true≢false (sym t ∙ sym c.active.ensures ∙ w.if-active.false)))
+          ]),
     )
 
 pub returns : goal.returns

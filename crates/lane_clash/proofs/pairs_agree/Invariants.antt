@@ -7,8 +7,8 @@ use Rattle.lanes.specs.Lanes.{all_below, ok_if}
 use Rattle.lane_clash.specs.Clash.{lane_from}
 use Rattle.lane_clash.proofs.pairs_agree.Given as goal
 
-pub -- the test of lane i
-abbrev of_lane : ℕ → ℕ → ℕ → List ℕ → List ℕ → ℕ → Bool
+-- the test of lane i
+abbrev pub of_lane : ℕ → ℕ → ℕ → List ℕ → List ℕ → ℕ → Bool
 of_lane w mask n o x i = ok_if (bit mask (lane i)) (lane_from w mask n o x (lane i))
 
 

@@ -22,5 +22,5 @@ over-mask-spec =
     (λ c.
     let r = c.before.before in
     let m = r.before.before in
-    told m.before.args.op m.before.args.w _ _ (sym m.masked.ensures ∙ r.before.if1.true) (c.before.is_v0_lem.ensures ∙ ap is_v0 r.vd.ensures.0) c.is_compare_lem.ensures)
+    told m.before.args.op m.before.args.w _ _ (sym m.masked.ensures ∙ r.before.if1.true) (c.before.is_v0.ensures ∙ ap is_v0 r.vd.ensures.0) c.is_compare.ensures)
     (λ c. rw (sym c.before.masked.ensures ∙ c.if1.false)))

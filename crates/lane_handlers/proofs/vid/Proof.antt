@@ -20,8 +20,8 @@ use Rattle.lane_handlers.proofs.vid.Tie as tie
 tested : (q : tie.After-is-v0) →
     let m = q.before in
     let w = m.before.before.before.args.w in
-    (is_masked (fields_of w) && is_v0 (vd_in w)) ≡ (m.masked.result && q.is_v0_lem.result)
-tested q = sym (ap₂ ◌&&◌ q.before.masked.ensures (q.is_v0_lem.ensures ∙ ap is_v0 q.before.before.vd.ensures.0))
+    (is_masked (fields_of w) && is_v0 (vd_in w)) ≡ (m.masked.result && q.is_v0.result)
+tested q = sym (ap₂ ◌&&◌ q.before.masked.ensures (q.is_v0.ensures ∙ ap is_v0 q.before.before.vd.ensures.0))
 
 returns : tie.Need-returns
 unfolding warp_of refusals_of

@@ -25,7 +25,7 @@ returns c =
     let a = s.args in
     λ r d n.
     refused (I.VMerge (vd_in a.w) (vs2_in a.w) (on_source (numbers_in a.w) (source_in (fields_of a.w)))) 6 (lists a.g.now a.h.now a.x.now r a.v.now d) (λ z. omega arith) s.requires.long n
-    (mask_refuses (is_v0 (vd_in a.w)) (sym (q.is_v0_lem.ensures ∙ ap is_v0 q.before.vd.ensures.0) ∙ c.if1.true))
+    (mask_refuses (is_v0 (vd_in a.w)) (sym (q.is_v0.ensures ∙ ap is_v0 q.before.vd.ensures.0) ∙ c.if1.true))
 
 merge-lanes-requires : tie.Need-merge-lanes-requires
 merge-lanes-requires c κs =
@@ -46,7 +46,7 @@ returns-2 c =
     let a = s.args in
     λ r d n.
     file_written (I.VMerge (vd_in a.w) (vs2_in a.w) (on_source (numbers_in a.w) (source_in (fields_of a.w)))) a.g.now a.h.now a.x.now r a.v.now d _ s.requires.long n c.next.ensures
-    (mask_passes (is_v0 (vd_in a.w)) (sym (q.is_v0_lem.ensures ∙ ap is_v0 q.before.vd.ensures.0) ∙ o.before.if1.false)) (bit (mask_in a.h.now)) _ _ _ refl
+    (mask_passes (is_v0 (vd_in a.w)) (sym (q.is_v0.ensures ∙ ap is_v0 q.before.vd.ensures.0) ∙ o.before.if1.false)) (bit (mask_in a.h.now)) _ _ _ refl
     (m.merge-lanes.ensures
     ∙ rw (b.before.threads.ensures, q.before.vd.ensures.0, b.vs2.ensures.0, o.operand.ensures.1 a.g.now a.h.now r a.v.now d))
 

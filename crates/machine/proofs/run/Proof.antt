@@ -37,7 +37,7 @@ returns-3 c =
     let start = left.before.before.before.before.before.before.before.before.before.before.before in (
       omega arith,
       rw c.answer-of.ensures
-          (run_goes start.args.w (long start) left.if2.false _ _ _ moving.before.fixed_of_lem.ensures moving.moving-of.ensures flat.flat.ensures _ _ _ _ _ _ _ _ ran.run-words.ensures c.before.together.ensures),
+          (run_goes start.args.w (long start) left.if2.false _ _ _ moving.before.fixed_of.ensures moving.moving-of.ensures flat.flat.ensures _ _ _ _ _ _ _ _ ran.run-words.ensures c.before.together.ensures),
     )
 
 pub run_spec : {M : Type 1} → statement M

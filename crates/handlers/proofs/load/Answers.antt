@@ -1,0 +1,65 @@
+use Prim.Native.Nat.{ℕ}
+use Rattle.definition.specs.Exec.{effect_of, goes}
+use Rattle.definition.specs.Refuse.{refusals_of}
+use Rattle.handlers.proofs.Laws.{given, load_inside, load_outside, refused, row_fails, row_passes}
+use Rattle.handlers.specs.Handles.{lists, puts_in}
+use Rattle.isa.specs.Fields.{fields_of, imm_i}
+use Rattle.isa.specs.Wide.{xd_in, xs1_in}
+use Rattle.isa.specs.Kinds.{load_op_of}
+use Rattle.isa.specs.declared.Instr.TheVariants as I
+use Rattle.memory.specs.Address.{plain_of}
+use Rattle.memory.specs.Memories.{contents, memories}
+use Rattle.layout.specs.Words.{fixed_in, warp_of}
+use borrow.Author.Rules.{rules}
+use lib.ListN.{get_or}
+use mathlib.Core.Path.{◌∙◌, ap, ap₂, sym}
+use native.Mathlib.Omega.{arith}
+use Rattle.handlers.proofs.load.Goals as goal
+
+pub first-requires : goal.first-requires
+unfolding effect_of refusals_of warp_of
+first-requires c = search rules
+
+pub imm_i-requires : goal.imm_i-requires
+unfolding effect_of refusals_of warp_of
+imm_i-requires c = search rules
+
+pub plain_address-p-requires : goal.plain_address-p-requires
+unfolding effect_of refusals_of warp_of
+plain_address-p-requires c = search rules
+
+pub bounds-g-5 : goal.bounds-g-5
+unfolding effect_of refusals_of warp_of
+bounds-g-5 c = search rules
+
+pub bounds-g-8 : goal.bounds-g-8
+unfolding effect_of refusals_of warp_of
+bounds-g-8 c = search rules
+
+pub load_op-requires : goal.load_op-requires
+unfolding effect_of refusals_of warp_of
+load_op-requires c = search rules
+
+pub scalar_load-found-requires : goal.scalar_load-found-requires
+unfolding effect_of refusals_of warp_of
+scalar_load-found-requires c = search rules
+
+pub enum_known-found : goal.enum_known-found
+unfolding effect_of refusals_of warp_of
+enum_known-found c = search rules
+
+pub gives-requires : goal.gives-requires
+unfolding effect_of refusals_of warp_of
+gives-requires c = search rules
+
+pub enum_told-1 : goal.enum_told-1
+unfolding effect_of refusals_of warp_of
+enum_told-1 c = search rules
+
+pub returns-in-Found : goal.returns-in-Found
+unfolding effect_of refusals_of warp_of
+returns-in-Found c = let a = c.args in let f = fields_of a.w in let q = load_inside (load_op_of f) (memories (fixed_in a.g.now).dataBase (fixed_in a.g.now).lds (contents a.d.now a.l.now)) _ (plain_of (get_or a.x.now (xs1_in a.w).0 0) (imm_i f)) (c.plain_address-p.ensures ∙ ap₂ plain_of c.first.ensures c.imm_i.ensures.0) _ (rw (← c.load_op.ensures) (sym c.in-Found.is ∙ c.scalar_load-found.ensures)) in λ s v n. given (I.Load (load_op_of f) (xd_in a.w) (xs1_in a.w) (imm_i f)) (xd_in a.w) _ _ a.g.now a.h.now a.x.now s v (contents a.d.now a.l.now) _ _ c.gives.ensures.0 (c.gives.ensures.1 a.g.now s n) (row_passes 9 _ q.0) (ap (λ (z : ℕ). goes (puts_in (xd_in a.w) z (warp_of a.g.now a.h.now a.x.now s))) q.1)
+
+pub returns-in-Outside : goal.returns-in-Outside
+unfolding effect_of refusals_of warp_of
+returns-in-Outside c = let a = c.args in let f = fields_of a.w in let q = load_outside (load_op_of f) (memories (fixed_in a.g.now).dataBase (fixed_in a.g.now).lds (contents a.d.now a.l.now)) _ (plain_of (get_or a.x.now (xs1_in a.w).0 0) (imm_i f)) (c.plain_address-p.ensures ∙ ap₂ plain_of c.first.ensures c.imm_i.ensures.0) (rw (← c.load_op.ensures) (sym c.in-Outside.is ∙ c.scalar_load-found.ensures)) in λ s v n. refused (I.Load (load_op_of f) (xd_in a.w) (xs1_in a.w) (imm_i f)) 9 (lists a.g.now a.h.now a.x.now s v (contents a.d.now a.l.now)) (λ z. omega arith) c.requires.0 n (row_fails 9 _ q)

@@ -1,0 +1,21 @@
+use mathlib.Core.Path.{◌≡◌, sym, ◌∙◌}
+use mathlib.Core.Bool.{true}
+use borrow.Author.Tests.{not-false}
+use Rattle.memory.specs.Memories.{alone}
+use Rattle.definition.specs.Refuse.{runs_ok_of}
+use Rattle.definition.proofs.Sizes.{sizes}
+use Rattle.definition.proofs.Calls.{launch_size, launch_range, launch_done}
+use Rattle.launch_release.proofs.launch.Goals as goal
+
+pub returns-then-not-runs_ok : goal.returns-then-not-runs_ok
+returns-then-not-runs_ok c = rw c.zero_warp.ensures (sym (launch_size _ _ _ _ (sym c.runs_ok.ensures ∙ c.if-not-runs_ok.true)))
+
+pub returns-then-not-launch_ok : goal.returns-then-not-launch_ok
+returns-then-not-launch_ok c = rw c.zero_warp-then-not-launch_ok.ensures (sym (launch_range _ _ _ _ (sym c.runs_ok.ensures ∙ c.if-not-runs_ok.false) (sym c.launch_ok.ensures ∙ c.if-not-launch_ok.true)))
+
+pub clear-requires : goal.clear-requires
+clear-requires c = (sizes _ _ _ _ (sym c.runs_ok.ensures ∙ c.if-not-runs_ok.false)).file_is
+
+pub returns : goal.returns
+returns c = rw (c.launched.ensures, c.clear.ensures)
+    (sym (launch_done _ _ _ _ (sym c.runs_ok.ensures ∙ c.if-not-runs_ok.false) (sym c.launch_ok.ensures ∙ c.if-not-launch_ok.false)))
