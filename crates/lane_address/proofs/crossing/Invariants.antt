@@ -9,12 +9,12 @@ use Rattle.lanes.specs.Lanes.{lane_of, mask_of}
 use Rattle.memory.specs.Address.{in_word}
 use Rattle.lane_address.proofs.crossing.Given as goal
 
-abbrev pub crosses-at : List ℕ → VReg → ℕ → ℕ → Lane → Bool
-crosses-at v r off w l = not (in_word spaces.Private w (lane_of v r l) off)
+abbrev pub crosses_at : List ℕ → VReg → ℕ → ℕ → Lane → Bool
+crosses_at v r off w l = not (in_word spaces.Private w (lane_of v r l) off)
 
 
 abbrev pub invariant-loop-l : goal.invariant-loop-l
-invariant-loop-l l = (l.l ≤ l.n) × (l.out ≡ mask_of l.l (crosses-at l.v l.r l.off l.w))
+invariant-loop-l l = (l.l ≤ l.n) × (l.out ≡ mask_of l.l (crosses_at l.v l.r l.off l.w))
 
 
 abbrev pub decreases-loop-l : goal.decreases-loop-l

@@ -1,0 +1,97 @@
+use Prim.Native.Nat.{ℕ, ◌%◌, ◌^◌, ◌<◌, ◌≤◌}
+use mathlib.Core.List.{List}
+use mathlib.Core.Bool.{Bool}
+use mathlib.Core.Logic.{⊎_elim}
+use mathlib.Core.Path.{◌≡◌, ◌∙◌, refl, sym, ap}
+use native.Mathlib.Omega.{arith}
+use lib.ListN.{length}
+use Rattle.word.specs.declared.Op.{Op}
+use Rattle.isa.specs.declared.Instr.{Instr}
+use Rattle.isa.specs.declared.VReg.{VReg}
+use Rattle.isa.specs.Fields.{fields_of, is_masked}
+use Rattle.isa.specs.Masked.{over_mask}
+use Rattle.isa.specs.Prefix.{on_source, on_fields}
+use Rattle.isa.specs.Wide.{numbers_in, vd_in, vs2_in}
+use Rattle.isa.specs.Kinds.{op_limit, lane_op_word, source_in}
+use Rattle.isa.specs.Number.{op_at}
+use Rattle.lanes.specs.declared.Lane.{Lane}
+use Rattle.lanes.specs.declared.Operand.{Operand}
+use Rattle.isa.specs.Bounds.{vector_registers}
+use Rattle.lanes.specs.Lanes.{file_words, lanes_max, op_lane, written_lanes, write_lanes}
+use Rattle.lanes.specs.Mask.{bit}
+use Rattle.lanes.specs.Rows.{OperandOk}
+use Rattle.lanes.proofs.Laws.{write_length}
+use Rattle.layout.specs.Words.{mask_in, fixed_in, warp_of}
+use Rattle.definition.specs.Exec.{effect_of}
+use Rattle.definition.specs.Refuse.{refusals_of}
+use Rattle.definition.specs.State.{state}
+use Rattle.definition.proofs.Immediate.{shift_operand}
+use Rattle.handlers.specs.Handles.{lists}
+use Rattle.handlers.proofs.Laws.{refused, file_written}
+use Rattle.lane_handlers.proofs.Laws.{lanes_fit, by_mask, mask_fits, mask_refuses, mask_passes}
+use Rattle.lane_handlers.proofs.vector.Goals as goal
+use Rattle.lane_handlers.proofs.vector.Goals.{After-over_mask, After-vs2-a, Joined-b}
+
+-- the word's instruction, and the code's test of its destination
+abbrev word : After-over_mask → Instr
+word o = let a = o.args in on_fields (numbers_in a.w) (lane_op_word (op_at (a.kind % op_limit)) (fields_of a.w))
+
+
+tested : (o : After-over_mask) → over_mask (word o) ≡ o.over_mask.result
+tested o = let a = o.args in sym (o.over_mask.ensures ∙ ap (λ (p : Op). over_mask (on_fields (numbers_in a.w) (lane_op_word p (fields_of a.w)))) o.op_at-op.ensures)
+
+
+-- what either call asks, with an operand that is the one read
+asked : (t : After-vs2-a) (b : Operand) → t.operand-b.result ≡ b →
+    let a = t.args in
+    (length a.v.now ≡ file_words) × (t.vd-d.result.0 < vector_registers) × (t.vs2-a.result.0 < vector_registers) × OperandOk b × (t.threads-n.result ≤ lanes_max)
+    × (t.written-mask.result < 2 ^ t.threads-n.result)
+asked t b e =
+    let lent = t.requires.at in
+    let n = t.threads-n.ensures in
+    (lent.file, t.vd-d.ensures.1, t.vs2-a.ensures.1, rw e at t.operand-b.ensures.0, (lanes_fit lent n).0, mask_fits _ _ _ _ n t.written-mask.ensures)
+
+
+-- whichever call was made, the file has what the operation gives with the operand
+given : (m : Joined-b) →
+    let a = m.args in
+    m.match-b.v ≡ write_lanes m.threads-n.result (bit m.written-mask.result) m.vd-d.result (op_lane m.op_at-op.result a.v.now m.vs2-a.result m.operand-b.result) a.v.now
+given m =
+    let a = m.args in
+    let file : Operand → List ℕ = λ b. write_lanes m.threads-n.result (bit m.written-mask.result) m.vd-d.result (op_lane m.op_at-op.result a.v.now m.vs2-a.result b) a.v.now in
+    ⊎_elim (λ w. w.7 ∙ w.4.ensures ∙ ap file (sym w.1.given.1)) (λ w. w.7 ∙ w.4.ensures ∙ ap file (sym w.1.given.1)) m.match-b.branch
+
+
+told : (n : ℕ) (on : Lane → Bool) (d : VReg) (o o' : Op) (v : List ℕ) (a a' : VReg) (b b' : Operand) → o ≡ o' → a ≡ a' → b ≡ b'
+    → write_lanes n on d (op_lane o v a b) v ≡ write_lanes n on d (op_lane o' v a' b') v
+told n on d o o' v a a' b b' r s t = rw (r, s, t)
+
+
+pub returns-then-over_mask : goal.returns-then-over_mask
+unfolding warp_of refusals_of
+returns-then-over_mask c = 
+    let a = c.args in
+    λ r d n. refused (word c.before) 6 (lists a.g.now a.h.now a.x.now r a.v.now d) (λ z. omega arith) c.requires.long n (mask_refuses _ (tested c.before ∙ c.if-over_mask.true))
+
+pub op_lanes-requires : goal.op_lanes-requires
+op_lanes-requires c = asked c.before.before.before.before _ c.in-Reg.is
+
+pub op_lanes-requires-in-Word : goal.op_lanes-requires-in-Word
+op_lanes-requires-in-Word c = asked c.before.before.before.before _ c.in-Word.is
+
+pub shape_of-v : goal.shape_of-v
+shape_of-v c = ap length (given c.before.before) ∙ write_length _ _ _ _ _
+
+pub returns : goal.returns
+unfolding warp_of effect_of refusals_of
+returns c = 
+    let a = c.args in
+    let f = fields_of a.w in
+    let on : Lane → Bool = written_lanes (is_masked f) a.v.now (mask_in a.h.now) in
+    λ r d n.
+    file_written (word c.before.before.before.before.before.before.before.before.before.before.before) a.g.now a.h.now a.x.now r a.v.now d _ c.requires.long n c.next.ensures (mask_passes _ (tested c.before.before.before.before.before.before.before.before.before.before.before ∙ c.if-over_mask.false)) on _ _ _ refl
+    (given c.before.before
+    ∙ told _ _ _ _ _ a.v.now _ _ _ _ c.op_at-op.ensures c.vs2-a.ensures.0 (c.operand-b.ensures.1 a.g.now a.h.now r a.v.now d)
+    ∙ by_mask on _ _ _ _ _ _ a.v.now c.threads-n.ensures c.written-mask.ensures c.vd-d.ensures.0
+    ∙ ap (λ (e : Lane → ℕ). write_lanes (fixed_in a.g.now).numt on (vd_in a.w) e a.v.now)
+    (shift_operand (op_at (a.kind % op_limit)) a.v.now (vs2_in a.w) (on_source (numbers_in a.w) (source_in f)) (state (warp_of a.g.now a.h.now a.x.now r) a.v.now d)))

@@ -1,0 +1,180 @@
+use Rattle.definition.specs.Refuse.{refusals_of}
+use Rattle.scalar_ops.proofs.Laws.{reg_arm}
+use Rattle.isa.specs.Fields.{fields_of}
+use Rattle.isa.specs.Kinds.{of_immediates, of_products, row_of}
+use Rattle.isa.proofs.Laws.{past}
+use Rattle.isa.specs.Table.{on}
+use Rattle.isa.specs.declared.Instr.TheVariants.{Refused}
+use Rattle.word.specs.Word.{apply_of}
+use Rattle.word.specs.declared.Op.TheVariants as O
+use borrow.Author.Rules.{rules}
+use mathlib.Core.Path.{◌∙◌, ap₂, sym}
+use Rattle.scalar_ops.proofs.op_mul.Goals as goal
+
+pub first-requires : goal.first-requires
+unfolding row_of refusals_of
+first-requires c = search rules
+
+pub second-requires : goal.second-requires
+unfolding row_of refusals_of
+second-requires c = search rules
+
+pub mul-requires : goal.mul-requires
+unfolding row_of refusals_of
+mul-requires c = search rules
+
+pub gives-requires : goal.gives-requires
+unfolding row_of refusals_of
+gives-requires c = search rules
+
+pub first-requires-in-27 : goal.first-requires-in-27
+unfolding row_of refusals_of
+first-requires-in-27 c = search rules
+
+pub second-requires-in-27 : goal.second-requires-in-27
+unfolding row_of refusals_of
+second-requires-in-27 c = search rules
+
+pub mulh-requires : goal.mulh-requires
+unfolding row_of refusals_of
+mulh-requires c = search rules
+
+pub gives-requires-in-27 : goal.gives-requires-in-27
+unfolding row_of refusals_of
+gives-requires-in-27 c = search rules
+
+pub first-requires-in-28 : goal.first-requires-in-28
+unfolding row_of refusals_of
+first-requires-in-28 c = search rules
+
+pub second-requires-in-28 : goal.second-requires-in-28
+unfolding row_of refusals_of
+second-requires-in-28 c = search rules
+
+pub mulhsu-requires : goal.mulhsu-requires
+unfolding row_of refusals_of
+mulhsu-requires c = search rules
+
+pub gives-requires-in-28 : goal.gives-requires-in-28
+unfolding row_of refusals_of
+gives-requires-in-28 c = search rules
+
+pub first-requires-in-29 : goal.first-requires-in-29
+unfolding row_of refusals_of
+first-requires-in-29 c = search rules
+
+pub second-requires-in-29 : goal.second-requires-in-29
+unfolding row_of refusals_of
+second-requires-in-29 c = search rules
+
+pub mulhu-requires : goal.mulhu-requires
+unfolding row_of refusals_of
+mulhu-requires c = search rules
+
+pub gives-requires-in-29 : goal.gives-requires-in-29
+unfolding row_of refusals_of
+gives-requires-in-29 c = search rules
+
+pub first-requires-in-30 : goal.first-requires-in-30
+unfolding row_of refusals_of
+first-requires-in-30 c = search rules
+
+pub second-requires-in-30 : goal.second-requires-in-30
+unfolding row_of refusals_of
+second-requires-in-30 c = search rules
+
+pub div-requires : goal.div-requires
+unfolding row_of refusals_of
+div-requires c = search rules
+
+pub gives-requires-in-30 : goal.gives-requires-in-30
+unfolding row_of refusals_of
+gives-requires-in-30 c = search rules
+
+pub first-requires-in-31 : goal.first-requires-in-31
+unfolding row_of refusals_of
+first-requires-in-31 c = search rules
+
+pub second-requires-in-31 : goal.second-requires-in-31
+unfolding row_of refusals_of
+second-requires-in-31 c = search rules
+
+pub divu-requires : goal.divu-requires
+unfolding row_of refusals_of
+divu-requires c = search rules
+
+pub gives-requires-in-31 : goal.gives-requires-in-31
+unfolding row_of refusals_of
+gives-requires-in-31 c = search rules
+
+pub first-requires-in-32 : goal.first-requires-in-32
+unfolding row_of refusals_of
+first-requires-in-32 c = search rules
+
+pub second-requires-in-32 : goal.second-requires-in-32
+unfolding row_of refusals_of
+second-requires-in-32 c = search rules
+
+pub rem-requires : goal.rem-requires
+unfolding row_of refusals_of
+rem-requires c = search rules
+
+pub gives-requires-in-32 : goal.gives-requires-in-32
+unfolding row_of refusals_of
+gives-requires-in-32 c = search rules
+
+pub first-requires-in-33 : goal.first-requires-in-33
+unfolding row_of refusals_of
+first-requires-in-33 c = search rules
+
+pub second-requires-in-33 : goal.second-requires-in-33
+unfolding row_of refusals_of
+second-requires-in-33 c = search rules
+
+pub remu-requires : goal.remu-requires
+unfolding row_of refusals_of
+remu-requires c = search rules
+
+pub gives-requires-in-33 : goal.gives-requires-in-33
+unfolding row_of refusals_of
+gives-requires-in-33 c = search rules
+
+pub op_imm-requires : goal.op_imm-requires
+unfolding row_of refusals_of
+op_imm-requires c = let a = c.args in let f = fields_of a.w in (c.requires.0, c.requires.1 ∙ sym (past (on f) Refused _ of_products of_immediates c.in_default.in_default-own.rest))
+
+pub returns-in-26 : goal.returns-in-26
+unfolding row_of refusals_of
+returns-in-26 c = let a = c.args in reg_arm a.kind a.w O.Mul _ _ a.h.now a.x.now _ _ (rw c.in-26.is) (c.mul.ensures ∙ ap₂ (apply_of O.Mul) c.first.ensures c.second.ensures) c.gives.ensures
+
+pub returns-in-27 : goal.returns-in-27
+unfolding row_of refusals_of
+returns-in-27 c = let a = c.args in reg_arm a.kind a.w O.Mulh _ _ a.h.now a.x.now _ _ (rw c.in-27.is) (c.mulh.ensures ∙ ap₂ (apply_of O.Mulh) c.first-in-27.ensures c.second-in-27.ensures) c.gives-in-27.ensures
+
+pub returns-in-28 : goal.returns-in-28
+unfolding row_of refusals_of
+returns-in-28 c = let a = c.args in reg_arm a.kind a.w O.Mulhsu _ _ a.h.now a.x.now _ _ (rw c.in-28.is) (c.mulhsu.ensures ∙ ap₂ (apply_of O.Mulhsu) c.first-in-28.ensures c.second-in-28.ensures) c.gives-in-28.ensures
+
+pub returns-in-29 : goal.returns-in-29
+unfolding row_of refusals_of
+returns-in-29 c = let a = c.args in reg_arm a.kind a.w O.Mulhu _ _ a.h.now a.x.now _ _ (rw c.in-29.is) (c.mulhu.ensures ∙ ap₂ (apply_of O.Mulhu) c.first-in-29.ensures c.second-in-29.ensures) c.gives-in-29.ensures
+
+pub returns-in-30 : goal.returns-in-30
+unfolding row_of refusals_of
+returns-in-30 c = let a = c.args in reg_arm a.kind a.w O.Div _ _ a.h.now a.x.now _ _ (rw c.in-30.is) (c.div.ensures ∙ ap₂ (apply_of O.Div) c.first-in-30.ensures c.second-in-30.ensures) c.gives-in-30.ensures
+
+pub returns-in-31 : goal.returns-in-31
+unfolding row_of refusals_of
+returns-in-31 c = let a = c.args in reg_arm a.kind a.w O.Divu _ _ a.h.now a.x.now _ _ (rw c.in-31.is) (c.divu.ensures ∙ ap₂ (apply_of O.Divu) c.first-in-31.ensures c.second-in-31.ensures) c.gives-in-31.ensures
+
+pub returns-in-32 : goal.returns-in-32
+unfolding row_of refusals_of
+returns-in-32 c = let a = c.args in reg_arm a.kind a.w O.Rem _ _ a.h.now a.x.now _ _ (rw c.in-32.is) (c.rem.ensures ∙ ap₂ (apply_of O.Rem) c.first-in-32.ensures c.second-in-32.ensures) c.gives-in-32.ensures
+
+pub returns-in-33 : goal.returns-in-33
+unfolding row_of refusals_of
+returns-in-33 c = let a = c.args in reg_arm a.kind a.w O.Remu _ _ a.h.now a.x.now _ _ (rw c.in-33.is) (c.remu.ensures ∙ ap₂ (apply_of O.Remu) c.first-in-33.ensures c.second-in-33.ensures) c.gives-in-33.ensures
+
+pub returns-in_default : goal.returns-in_default
+unfolding row_of refusals_of
+returns-in_default c = c.op_imm.ensures
