@@ -3,6 +3,7 @@ use mathlib.Core.Path.{◌≡◌, refl, sym, ap, ◌∙◌}
 use mathlib.Core.Bool.{Bool, true, false, cond, ◌||◌}
 use mathlib.Core.List.{List, [], ◌∷◌}
 use lib.Dec.{eqb}
+use borrow.Enum.Refused.{opened}
 use types.Run.{miss}
 use borrow.Author.Tests.{ne_eqb}
 use Rattle.isa.specs.declared.Instr.{Instr}
@@ -11,12 +12,10 @@ use Rattle.isa.specs.Masked.{over_mask}
 use Rattle.isa.specs.Decode.{decode_of}
 use Rattle.capi_words.specs.Words.{variant, decode_call_of}
 use Rattle.capi_words.proofs.bench_decode.Goals as goal
-use Rattle.capi_words.proofs.bench_decode.Goals.{After-over_mask}
 
 -- the code's test of the destination is the definition's
-over : (o : After-over_mask) → over_mask (decode_of o.args.word) ≡ o.over_mask.result
-over o = sym (o.over_mask.ensures ∙ ap over_mask o.decode-i.ensures)
-
+over : (w : ℕ) (i : Instr) (r : Bool) → i ≡ decode_of w → r ≡ over_mask i → over_mask (decode_of w) ≡ r
+over w i r e h = sym (h ∙ ap over_mask e)
 
 abbrev absent : Instr → Bool
 absent i = eqb (variant i) (variant Refused)
@@ -42,7 +41,7 @@ neither a b p q = rw (p, q)
 
 pub returns-then-over_mask : goal.returns-then-over_mask
 unfolding decode_call_of
-returns-then-over_mask c = either (absent (decode_of c.args.word)) _ (over c.before ∙ c.if-over_mask.true)
+returns-then-over_mask c = either (absent (decode_of c.args.word)) _ (over c.args.word _ _ c.decode-i.ensures c.over_mask.ensures ∙ c.if-over_mask.true)
 
 pub returns-in-Refused : goal.returns-in-Refused
 unfolding decode_call_of
@@ -52,5 +51,5 @@ pub returns-in_default : goal.returns-in_default
 unfolding decode_call_of
 returns-in_default c = 
     let i : Instr = c.decode-i.result in
-    let other : variant i ≡ 0 → ⊥ = λ e. miss later 0 tt (rw e at c.in_default.in_default-own.keys2) in
-    neither (absent (decode_of c.args.word)) _ (sym (ap absent c.decode-i.ensures) ∙ ne_eqb (variant i) 0 other) (over c.before.before ∙ c.if-over_mask.false)
+    let other : variant i ≡ 0 → ⊥ = λ e. miss later 0 tt (rw e at (opened c.in_default.in_default-own.keys2)) in
+    neither (absent (decode_of c.args.word)) _ (sym (ap absent c.decode-i.ensures) ∙ ne_eqb (variant i) 0 other) (over c.args.word _ _ c.decode-i.ensures c.over_mask.ensures ∙ c.if-over_mask.false)

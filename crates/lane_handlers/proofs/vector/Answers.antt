@@ -1,7 +1,6 @@
 use Prim.Native.Nat.{ℕ, ◌%◌, ◌^◌, ◌<◌, ◌≤◌}
 use mathlib.Core.List.{List}
 use mathlib.Core.Bool.{Bool}
-use mathlib.Core.Logic.{⊎_elim}
 use mathlib.Core.Path.{◌≡◌, ◌∙◌, refl, sym, ap}
 use native.Mathlib.Omega.{arith}
 use lib.ListN.{length}
@@ -30,37 +29,15 @@ use Rattle.handlers.specs.Handles.{lists}
 use Rattle.handlers.proofs.Laws.{refused, file_written}
 use Rattle.lane_handlers.proofs.Laws.{lanes_fit, by_mask, mask_fits, mask_refuses, mask_passes}
 use Rattle.lane_handlers.proofs.vector.Goals as goal
-use Rattle.lane_handlers.proofs.vector.Goals.{After-over_mask, After-vs2-a, Joined-b}
+use Rattle.lane_handlers.proofs.vector.Goals.{in-Reg, in-Word}
 
--- the word's instruction, and the code's test of its destination
-abbrev word : After-over_mask → Instr
-word o = let a = o.args in on_fields (numbers_in a.w) (lane_op_word (op_at (a.kind % op_limit)) (fields_of a.w))
+-- the word's instruction
+abbrev word : ℕ → ℕ → Instr
+word kind w = on_fields (numbers_in w) (lane_op_word (op_at (kind % op_limit)) (fields_of w))
 
-
-tested : (o : After-over_mask) → over_mask (word o) ≡ o.over_mask.result
-tested o = let a = o.args in sym (o.over_mask.ensures ∙ ap (λ (p : Op). over_mask (on_fields (numbers_in a.w) (lane_op_word p (fields_of a.w)))) o.op_at-op.ensures)
-
-
--- what either call asks, with an operand that is the one read
-asked : (t : After-vs2-a) (b : Operand) → t.operand-b.result ≡ b →
-    let a = t.args in
-    (length a.v.now ≡ file_words) × (t.vd-d.result.0 < vector_registers) × (t.vs2-a.result.0 < vector_registers) × OperandOk b × (t.threads-n.result ≤ lanes_max)
-    × (t.written-mask.result < 2 ^ t.threads-n.result)
-asked t b e =
-    let lent = t.requires.at in
-    let n = t.threads-n.ensures in
-    (lent.file, t.vd-d.ensures.1, t.vs2-a.ensures.1, rw e at t.operand-b.ensures.0, (lanes_fit lent n).0, mask_fits _ _ _ _ n t.written-mask.ensures)
-
-
--- whichever call was made, the file has what the operation gives with the operand
-given : (m : Joined-b) →
-    let a = m.args in
-    m.match-b.v ≡ write_lanes m.threads-n.result (bit m.written-mask.result) m.vd-d.result (op_lane m.op_at-op.result a.v.now m.vs2-a.result m.operand-b.result) a.v.now
-given m =
-    let a = m.args in
-    let file : Operand → List ℕ = λ b. write_lanes m.threads-n.result (bit m.written-mask.result) m.vd-d.result (op_lane m.op_at-op.result a.v.now m.vs2-a.result b) a.v.now in
-    ⊎_elim (λ w. w.7 ∙ w.4.ensures ∙ ap file (sym w.1.given.1)) (λ w. w.7 ∙ w.4.ensures ∙ ap file (sym w.1.given.1)) m.match-b.branch
-
+-- the code's test of its destination
+tested : (kind w : ℕ) (o : Op) (r : Bool) → o ≡ op_at (kind % op_limit) → r ≡ over_mask (on_fields (numbers_in w) (lane_op_word o (fields_of w))) → over_mask (word kind w) ≡ r
+tested kind w o r e h = sym (h ∙ ap (λ (p : Op). over_mask (on_fields (numbers_in w) (lane_op_word p (fields_of w)))) e)
 
 told : (n : ℕ) (on : Lane → Bool) (d : VReg) (o o' : Op) (v : List ℕ) (a a' : VReg) (b b' : Operand) → o ≡ o' → a ≡ a' → b ≡ b'
     → write_lanes n on d (op_lane o v a b) v ≡ write_lanes n on d (op_lane o' v a' b') v
@@ -69,28 +46,50 @@ told n on d o o' v a a' b b' r s t = rw (r, s, t)
 
 pub returns-then-over_mask : goal.returns-then-over_mask
 unfolding warp_of refusals_of
-returns-then-over_mask c = 
+returns-then-over_mask c =
     let a = c.args in
-    λ r d n. refused (word c.before) 6 (lists a.g.now a.h.now a.x.now r a.v.now d) (λ z. omega arith) c.requires.long n (mask_refuses _ (tested c.before ∙ c.if-over_mask.true))
+    λ r d n. refused (word a.kind a.w) 6 (lists a.g.now a.h.now a.x.now r a.v.now d) (λ z. omega arith) c.requires.long n
+        (mask_refuses _ (tested a.kind a.w _ _ c.op_at-op.ensures c.over_mask.ensures ∙ c.if-over_mask.true))
 
 pub op_lanes-requires : goal.op_lanes-requires
-op_lanes-requires c = asked c.before.before.before.before _ c.in-Reg.is
+op_lanes-requires c =
+    let lent = c.requires.at in
+    let n = c.threads-n.ensures in
+    (lent.file, c.vd-d.ensures.1, c.vs2-a.ensures.1, rw c.in-Reg.is at c.operand-b.ensures.0, (lanes_fit lent n).0, mask_fits _ _ _ _ n c.written-mask.ensures)
 
 pub op_lanes-requires-in-Word : goal.op_lanes-requires-in-Word
-op_lanes-requires-in-Word c = asked c.before.before.before.before _ c.in-Word.is
+op_lanes-requires-in-Word c =
+    let lent = c.requires.at in
+    let n = c.threads-n.ensures in
+    (lent.file, c.vd-d.ensures.1, c.vs2-a.ensures.1, rw c.in-Word.is at c.operand-b.ensures.0, (lanes_fit lent n).0, mask_fits _ _ _ _ n c.written-mask.ensures)
 
 pub shape_of-v : goal.shape_of-v
-shape_of-v c = ap length (given c.before.before) ∙ write_length _ _ _ _ _
+shape_of-v c =
+    let a = c.args in
+    let file : Operand → List ℕ = λ b. write_lanes c.threads-n.result (bit c.written-mask.result) c.vd-d.result (op_lane c.op_at-op.result a.v.now c.vs2-a.result b) a.v.now in
+    let given : c.match-b.v ≡ file c.operand-b.result =
+        elim c.match-b.branch [
+          in-Reg w ↦ w.v-is ∙ w.op_lanes.ensures ∙ ap file (sym w.in-Reg.is)
+        | in-Word w ↦ w.v-is ∙ w.op_lanes-in-Word.ensures ∙ ap file (sym w.in-Word.is)
+        ] in
+    ap length given ∙ write_length _ _ _ _ _
 
 pub returns : goal.returns
 unfolding warp_of effect_of refusals_of
-returns c = 
+returns c =
     let a = c.args in
     let f = fields_of a.w in
     let on : Lane → Bool = written_lanes (is_masked f) a.v.now (mask_in a.h.now) in
+    let file : Operand → List ℕ = λ b. write_lanes c.threads-n.result (bit c.written-mask.result) c.vd-d.result (op_lane c.op_at-op.result a.v.now c.vs2-a.result b) a.v.now in
+    let given : c.match-b.v ≡ file c.operand-b.result =
+        elim c.match-b.branch [
+          in-Reg w ↦ w.v-is ∙ w.op_lanes.ensures ∙ ap file (sym w.in-Reg.is)
+        | in-Word w ↦ w.v-is ∙ w.op_lanes-in-Word.ensures ∙ ap file (sym w.in-Word.is)
+        ] in
     λ r d n.
-    file_written (word c.before.before.before.before.before.before.before.before.before.before.before) a.g.now a.h.now a.x.now r a.v.now d _ c.requires.long n c.next.ensures (mask_passes _ (tested c.before.before.before.before.before.before.before.before.before.before.before ∙ c.if-over_mask.false)) on _ _ _ refl
-    (given c.before.before
+    file_written (word a.kind a.w) a.g.now a.h.now a.x.now r a.v.now d _ c.requires.long n c.next.ensures
+        (mask_passes _ (tested a.kind a.w _ _ c.op_at-op.ensures c.over_mask.ensures ∙ c.if-over_mask.false)) on _ _ _ refl
+    (given
     ∙ told _ _ _ _ _ a.v.now _ _ _ _ c.op_at-op.ensures c.vs2-a.ensures.0 (c.operand-b.ensures.1 a.g.now a.h.now r a.v.now d)
     ∙ by_mask on _ _ _ _ _ _ a.v.now c.threads-n.ensures c.written-mask.ensures c.vd-d.ensures.0
     ∙ ap (λ (e : Lane → ℕ). write_lanes (fixed_in a.g.now).numt on (vd_in a.w) e a.v.now)

@@ -28,4 +28,4 @@ pub returns : goal.returns
 returns c = 
     let a = c.args in
     stored_row a.space a.off a.mask a.w a.g.now a.v.now (contents a.d.now a.l.now) c.lane_addresses-o.result c.threads-n.ensures c.lane_addresses-o.ensures c.lane_store_op-k.ensures c.vs2.ensures.0
-    (not_crossed a.space _ a.off a.mask a.w a.g.now a.v.now (contents a.d.now a.l.now) c.width.ensures.0 c.some_crosses.ensures c.if-some_crosses.left) c.store_lanes.ensures
+    (not_crossed a.space _ a.off a.mask a.w a.g.now a.v.now (contents a.d.now a.l.now) c.width.ensures.0 c.some_crosses.ensures c.if-some_crosses.false) c.store_lanes.ensures
