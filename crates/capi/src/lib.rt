@@ -18,8 +18,7 @@ fn blank(state: &mut [u32])
     saved::save(z, state);
 }
 
-#[unsafe(no_mangle)]
-pub extern "C" fn bench_launch(
+pub fn bench_launch(
     card: &[u8],
     kernel: &[u32],
     vector: &mut [u32],
@@ -70,13 +69,7 @@ fn run_state(
     end
 }
 
-#[unsafe(no_mangle)]
-pub extern "C" fn bench_step(
-    state: &mut [u32],
-    kernel: &[u32],
-    vector: &mut [u32],
-    bytes: &mut [u8],
-) -> u32
+pub fn bench_step(state: &mut [u32], kernel: &[u32], vector: &mut [u32], bytes: &mut [u8]) -> u32
     ensures { called result state.new vector.new bytes.new ≡ step_call_of state.old kernel.now vector.old bytes.old }
 {
     if state.len() != STATE_WORDS {
@@ -86,8 +79,7 @@ pub extern "C" fn bench_step(
     end.code
 }
 
-#[unsafe(no_mangle)]
-pub extern "C" fn bench_run(
+pub fn bench_run(
     state: &mut [u32],
     kernel: &[u32],
     vector: &mut [u32],
@@ -109,8 +101,7 @@ pub extern "C" fn bench_run(
     end.code
 }
 
-#[unsafe(no_mangle)]
-pub extern "C" fn bench_release(state: &mut [u32]) -> u32
+pub fn bench_release(state: &mut [u32]) -> u32
     ensures { saving result state.new ≡ release_call_of state.old }
 {
     let read = saved::restore(state);

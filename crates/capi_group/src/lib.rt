@@ -7,8 +7,7 @@ ghost use Rattle.definition.specs.Calls.{budget_limit};
 ghost use Rattle.group_launch.specs.GroupLaunchCall.{group_launch_called, group_launch_call_of};
 ghost use Rattle.group_state.specs.GroupState.{group_called, group_step_call_of, group_run_call_of};
 
-#[unsafe(no_mangle)]
-pub extern "C" fn bench_group_launch(
+pub fn bench_group_launch(
     cards: &[u8],
     kernel: &[u32],
     vector: &mut [u32],
@@ -21,8 +20,7 @@ pub extern "C" fn bench_group_launch(
     group_launch::launch_cards(cards, kernel, vector, bytes, local, state)
 }
 
-#[unsafe(no_mangle)]
-pub extern "C" fn bench_group_step(
+pub fn bench_group_step(
     state: &mut [u32],
     kernel: &[u32],
     vector: &mut [u32],
@@ -44,8 +42,7 @@ pub extern "C" fn bench_group_step(
     end.code
 }
 
-#[unsafe(no_mangle)]
-pub extern "C" fn bench_group_run(
+pub fn bench_group_run(
     state: &mut [u32],
     kernel: &[u32],
     vector: &mut [u32],

@@ -29,8 +29,7 @@ fn put_count(t: &mut [u32], n: u32)
     t[0] = n;
 }
 
-#[unsafe(no_mangle)]
-pub extern "C" fn bench_mark(
+pub fn bench_mark(
     card: &[u8],
     kernel: &[u32],
     vector: &mut [u32],
@@ -58,8 +57,7 @@ pub extern "C" fn bench_mark(
     answer::number(b)
 }
 
-#[unsafe(no_mangle)]
-pub extern "C" fn bench_sheet(
+pub fn bench_sheet(
     card: &[u8],
     kernel: &[u32],
     vector: &mut [u32],

@@ -6,8 +6,7 @@ ghost use Rattle.capi_words.specs.Words.{decode_call_of};
 
 use isa::Instr;
 
-#[unsafe(no_mangle)]
-pub extern "C" fn bench_decode(word: u32) -> u32
+pub fn bench_decode(word: u32) -> u32
     ensures { result ≡ decode_call_of word }
 {
     let i = instruction::decode(word);

@@ -124,8 +124,7 @@ fn scatter(ws: &mut [Warp], g: Group)
 }
 
 // One step of the warps in a lent run.
-#[unsafe(no_mangle)]
-pub extern "C" fn bench_step_warps(
+pub fn bench_step_warps(
     ws: &mut [Warp],
     turn: u32,
     kernel: &[u32],
