@@ -1,14 +1,18 @@
 #!/bin/sh
-# tools/launch.sh NAME PROGRAM [WORD...]: starts a program of the kit, the crate PROGRAM, with the words as its arguments, in the folder that it is called in.
+# tools/launch.sh NAME PROGRAM [WORD...]: starts the program of the crate PROGRAM with the words as its arguments, in the folder that it is called in.
 # The program is proved and built by rt first, once, and again where it is older than its text; what is said meanwhile goes to standard error, after NAME.
 set -u
 name=$1 crate=$2
 shift 2
 root=$(cd "$(dirname "$0")/.." && pwd -P)
 rt=$(command -v rt) || { echo "$name: rt, the Rattle kit, is not on the path" >&2; exit 1; }
-program=$root/target/bin/$crate
+program=$root/crates/$crate/out/$crate
 log=target/$crate.log
-stale() { [ ! -x "$program" ] || [ -n "$(find "$root/crates" "$root/crates.txt" -name must-fail -prune -o -type f -newer "$program" -print | head -n 1)" ]; }
+begun=target/$crate.begun
+stale() {
+    [ ! -x "$program" ] || [ -n "$(find "$root/crates" "$root/crates.txt" -type d \( -name must-fail -o -name out \) -prune -o \
+        -type f -newer "$program" -print | head -n 1)" ]
+}
 
 # how many crates the program is made of: crates.txt from its end, since a crate uses only those above it
 needed() {
@@ -22,36 +26,32 @@ needed() {
         }' crates.txt
 }
 
-# rt's lines go to the log as they come, and of each crate that ends one line to standard error; the log's last line is rt's status
+# rt's lines go to the log as they come, and of each crate that ends one line to standard error. `rt run` also runs what it has built: here on no input,
+# and nothing of what the program writes is taken.
 prove() {
-    crates=$(needed) proved=0 last=''
-    echo "$name: proving and building the program with rt, $crates crates (once; this takes minutes)" >&2
-    { "$rt" check "$crate" 2>&1; echo "$name: rt ended with status $?"; } | {
+    crates=$(needed) proved=0 which=$crate since=$(date +%s) built=''
+    echo "$name: proving and building the program with rt, at most $crates crates (once; this takes minutes)" >&2
+    (cd "crates/$crate" && "$rt" run 2>&1 >/dev/null </dev/null 3>/dev/null) | {
         while IFS= read -r line; do
-            last=$line
             printf '%s\n' "$line"
             case $line in
-            'rt: '*' proved ('*)
-                proved=$((proved + 1)) which=${line#rt: }
-                echo "$name: proved ${which%% *} ($proved of $crates, ${line##* proved (}" >&2
+            'rt: chose --jobs '*' for '*) which=${line##* } since=$(date +%s) ;;
+            'logic=proved'*)
+                proved=$((proved + 1))
+                echo "$name: proved $which ($proved of at most $crates, $(($(date +%s) - since)) s)" >&2
                 ;;
-            'rt: '*' NOT PROVED'*) echo "$name: ${line#rt: }" >&2 ;;
+            'logic='*) echo "$name: $which NOT PROVED" >&2 ;;
+            "rt: running out/$crate;"*) built=yes ;;
             esac
         done >"$log"
-        [ "$last" = "$name: rt ended with status 0" ]
+        [ "$built" ]
     }
 }
 if stale; then
-    if ! (cd "$root" && mkdir -p target && prove); then
+    # the program is as old as the moment when its proof began: an edit made meanwhile is newer
+    if ! (cd "$root" && mkdir -p target && touch "$begun" && prove && touch -r "$begun" "$program"); then
         echo "$name: rt did not build the program; $log says why" >&2
         exit 1
     fi
-    touch "$program"
 fi
-
-# programs are for x86-64 Linux; they run with the kit's loader and C library, on Arm under the kit's emulator, as rt runs them
-kit=${RATTLE_HOME:-$(dirname "$(dirname "$(readlink -f "$rt")")")}
-tools=$kit/on/$(uname -m)/toolchain
-emulator=$tools/bin/qemu-x86_64
-[ -x "$emulator" ] || emulator=''
-exec ${emulator:+"$emulator"} "$tools/lib/ld-linux-x86-64.so.2" --library-path "$tools/lib" "$program" "$@"
+exec "$program" "$@"
