@@ -1,5 +1,5 @@
 #!/bin/sh
-# tools/timing.sh [REPETITIONS]: times the proved library against the reference. Builds the five libraries for the machine at hand,
+# tools/timing.sh [REPETITIONS]: times the proved library against the reference. Builds the five archives, and the reference for the same processors,
 # runs `compare` and `compare groups`, which must find no difference, then `timing` in four processes, and prints a table of their
 # medians, and last `timing words`, `timing class` and `timing group`. No time is held to anything, and no other work should run beside it (docs/SPEED.md).
 set -eu
@@ -17,11 +17,11 @@ trap 'rm -rf "$work"' EXIT
 # what a build prints is kept in a file, and looked at only where it fails
 build() { "$@" >>target/timing.log 2>&1 || { echo "timing.sh: this failed, and target/timing.log says why: $*" >&2; exit 1; }; }
 : >target/timing.log
-echo 'timing.sh: proving and building the five libraries' >&2
+echo 'timing.sh: proving and building the five archives' >&2
 for crate in capi capi_words capi_sheet capi_group group_row; do
     build tools/static_library.sh "$crate" "linked/lib$crate.a"
 done
-build cargo build --release --manifest-path linked/Cargo.toml
+build env RUSTFLAGS='-C target-cpu=x86-64-v2' cargo build --release --manifest-path linked/Cargo.toml
 programs=linked/target/release
 for what in '' groups; do
     "$programs/compare" $what >"$work/compare" || { cat "$work/compare"; exit 1; }

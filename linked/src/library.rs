@@ -1,6 +1,6 @@
 //! The eleven calls of the five linked libraries, made safe. Nothing checks these declarations
-//! against src/lib.rt of crates capi, capi_words, capi_sheet, capi_group and group_row: a slice is
-//! passed as its pointer and then its length in elements.
+//! against src/lib.rt of crates capi_c, capi_words_c, capi_sheet_c, capi_group_c and group_row_c:
+//! a slice is passed as its pointer and then its length in elements.
 
 use crate::warps::{save, warps_of};
 use crate::{Lent, Machine};
