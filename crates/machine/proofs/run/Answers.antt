@@ -8,11 +8,6 @@ use Rattle.definition.proofs.Calls.{run_size, run_malformed}
 use Rattle.machine.proofs.Runs.{run_goes}
 use borrow.Author.Rules.{rules}
 use Rattle.machine.proofs.run.Goals as goal
-use Rattle.machine.proofs.run.Goals.{Start}
-
-long : (s : Start) → length s.args.w.splits ≡ split_count
-long s = search (rules, mapped)
-
 
 pub returns-then-not-runs_ok : goal.returns-then-not-runs_ok
 returns-then-not-runs_ok c = (omega arith, rw c.refused_run.ensures (sym (run_size _ _ _ (sym c.runs_ok.ensures ∙ c.if-not-runs_ok.true))))
@@ -24,8 +19,9 @@ pub answer_of-requires : goal.answer_of-requires
 answer_of-requires c = c.run_words-end.ensures.known
 
 pub returns : goal.returns
-returns c = (
+returns c =
+    let long : length c.args.w.splits ≡ split_count = search (rules, mapped) in (
       omega arith,
       rw c.answer_of.ensures
-          (run_goes c.args.w (long c.before.before.before.before.before.before.before.before.before.before.before.before.before.before.before.before.before.before.before.before.before.before.before.before.before.before.before.before.before.before.before.before) c.if-w-gt-SPLITS.false _ _ _ c.fixed_of-g.ensures c.moving_of-h.ensures c.flat-s.ensures _ _ _ _ _ _ _ _ c.run_words-end.ensures c.together-u.ensures),
+          (run_goes c.args.w long c.if-w-gt-SPLITS.false _ _ _ c.fixed_of-g.ensures c.moving_of-h.ensures c.flat-s.ensures _ _ _ _ _ _ _ _ c.run_words-end.ensures c.together-u.ensures),
     )
