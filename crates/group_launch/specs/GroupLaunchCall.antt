@@ -1,5 +1,5 @@
 -- A group launched from its cards, which stand one after another; its state is the turn, then each warp's 241 words.
-use Rattle.std.specs.Prelude.{ℕ, ◌+◌, ◌*◌, ◌/◌, ◌%◌, Bool, not, cond, List, [], ◌∷◌, eqb, length, take, drop, replicate}
+use Rattle.std.specs.Prelude.{ℕ, ◌*◌, ◌/◌, ◌%◌, Bool, not, cond, List, [], ◌∷◌, eqb, length, take, drop, replicate}
 use Rattle.answer.specs.Rows.{◌⇒◌, first}
 use Rattle.memory.specs.Memories.{Contents}
 use Rattle.warp.specs.declared.Launch.{Launch}

@@ -3,11 +3,6 @@ use native.Mathlib.Omega.{arith}
 use Rattle.definition.specs.Calls.{budget_limit}
 use Rattle.capi.proofs.Laws.{run_room, run_short, run_call}
 use Rattle.capi.proofs.bench_run.Goals as goal
-use Rattle.capi.proofs.bench_run.Goals.{Start}
-
-small : (s : Start) → s.args.budget < budget_limit
-small s = omega arith
-
 
 pub returns-then-steps-ne1 : goal.returns-then-steps-ne1
 returns-then-steps-ne1 c = (omega arith, run_room _ _ _ _ _ _ c.if-steps-ne1.true)
@@ -16,4 +11,6 @@ pub returns-then-state-ne-STATE_WORDS : goal.returns-then-state-ne-STATE_WORDS
 returns-then-state-ne-STATE_WORDS c = (omega arith, run_short _ _ _ _ _ _ c.if-steps-ne1.false c.if-state-ne-STATE_WORDS.true)
 
 pub returns : goal.returns
-returns c = (small c.before.before.before.before.before.before.before.before.before.before.before.before.before.before.before.before.before, run_call _ _ _ _ _ _ c.if-steps-ne1.false _ _ _ _ _ c.run_state-end.ensures)
+returns c =
+    let small : c.args.budget < budget_limit = omega arith in
+    (small, run_call _ _ _ _ _ _ c.if-steps-ne1.false _ _ _ _ _ c.run_state-end.ensures)

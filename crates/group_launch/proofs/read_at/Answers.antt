@@ -7,6 +7,5 @@ use Rattle.group_launch.proofs.read_at.Goals as goal
 sized : (i : ℕ) → i * 50 + 50 - i * 50 ≡ 50
 sized i = omega arith
 
-
 pub returns : goal.returns
 returns c = rw (sized c.args.i) at c.read_card.ensures
