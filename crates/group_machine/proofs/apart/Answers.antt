@@ -13,7 +13,7 @@ pub loop-i-init : goal.loop-i-init
 loop-i-init c = (omega arith, apart_none _ _ _ _ (search rules) (search rules) (search rules))
 
 pub moving_of-requires : goal.moving_of-requires
-moving_of-requires c = leb-true _ _ (below_at _ (shallow_at c.args.t1) c.requires.1 c.loop-i.i (search rules))
+moving_of-requires c = leb-true _ _ (below_at _ (shallow_at c.args.ws) c.requires.1 c.loop-i.i (search rules))
 
 pub loop-i-preserved : goal.loop-i-preserved
 loop-i-preserved c = (
@@ -22,4 +22,4 @@ loop-i-preserved c = (
     )
 
 pub returns : goal.returns
-returns c = subst (λ (i : ℕ). Apart i c.args.t1 c.loop-i.hs c.loop-i.xs c.loop-i.ss) (le_antisymm c.loop-i.invariant.0 c.loop-i-test.false) c.loop-i.invariant.1
+returns c = subst (λ (i : ℕ). Apart i c.args.ws c.loop-i.hs c.loop-i.xs c.loop-i.ss) (le_antisymm c.loop-i.invariant.0 c.loop-i-test.false) c.loop-i.invariant.1

@@ -14,4 +14,4 @@ pub loop-i-preserved : goal.loop-i-preserved
 loop-i-preserved c = (omega arith, fixeds_on_lem _ _ _ c.loop-i.invariant.1 (search rules) _ c.fixed_of.ensures)
 
 pub returns : goal.returns
-returns c = subst (λ (i : ℕ). Fixeds i c.args.t1 c.loop-i.gs) (le_antisymm c.loop-i.invariant.0 c.loop-i-test.false) c.loop-i.invariant.1
+returns c = subst (λ (i : ℕ). Fixeds i c.args.ws c.loop-i.gs) (le_antisymm c.loop-i.invariant.0 c.loop-i-test.false) c.loop-i.invariant.1

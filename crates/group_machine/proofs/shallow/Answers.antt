@@ -20,4 +20,4 @@ pub loop-i-preserved : goal.loop-i-preserved
 loop-i-preserved c = (omega arith, below_more _ c.loop-i.i c.loop-i.invariant.1 (le-leb _ _ c.if-w-gt-SPLITS.false))
 
 pub returns : goal.returns
-returns c = sym (subst (λ (m : ℕ). all_below m (shallow_at c.args.t1) ≡ true) (le_antisymm c.loop-i.invariant.0 c.loop-i-test.false) c.loop-i.invariant.1)
+returns c = sym (subst (λ (m : ℕ). all_below m (shallow_at c.args.ws) ≡ true) (le_antisymm c.loop-i.invariant.0 c.loop-i-test.false) c.loop-i.invariant.1)
