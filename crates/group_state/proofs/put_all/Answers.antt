@@ -81,22 +81,22 @@ overflow_add-a-in-loop-i c =
 
 pub slice_bounds-put-end : goal.slice_bounds-put-end
 slice_bounds-put-end c =
-    let long : length c.loop-i.state ≡ 1 + c.args.n * 241 = λ = let s. c.before.before.before in c.loop-i.invariant.1 ∙ length-set s.args.state.now 0 s.args.turn ∙ s.requires.1 in
+    let long : length c.loop-i.state ≡ 1 + c.args.n * 241 = c.loop-i.invariant.1 ∙ length-set c.args.state.now 0 c.args.turn ∙ c.requires.1 in
     omega (arith, c.loop-i-test.true, long)
 
 pub put-requires : goal.put-requires
 put-requires c =
-    let long : length c.loop-i.state ≡ 1 + c.args.n * 241 = λ = let s. c.before.before.before.before in c.loop-i.invariant.1 ∙ length-set s.args.state.now 0 s.args.turn ∙ s.requires.1 in
+    let long : length c.loop-i.state ≡ 1 + c.args.n * 241 = c.loop-i.invariant.1 ∙ length-set c.args.state.now 0 c.args.turn ∙ c.requires.1 in
     let i = c.loop-i.i in rw (sized i) (part_long i c.args.n c.loop-i.state c.loop-i-test.true long)
 
 pub loop-i-preserved : goal.loop-i-preserved
 loop-i-preserved c =
-    let long : length c.loop-i.state ≡ 1 + c.args.n * 241 = λ = let s. c.before.before.before.before.before.before.before in c.loop-i.invariant.1 ∙ length-set s.args.state.now 0 s.args.turn ∙ s.requires.1 in
-    let piece : length c.put.new.1.1.1.1.0 ≡ length (take (1 + c.loop-i.i * 241 + 241 - (1 + c.loop-i.i * 241)) (drop (1 + c.loop-i.i * 241) c.loop-i.state)) = c.state-1.given.0 in
+    let long : length c.loop-i.state ≡ 1 + c.args.n * 241 = c.loop-i.invariant.1 ∙ length-set c.args.state.now 0 c.args.turn ∙ c.requires.1 in
+    let piece : length c.put.new.state ≡ length (take (1 + c.loop-i.i * 241 + 241 - (1 + c.loop-i.i * 241)) (drop (1 + c.loop-i.i * 241) c.loop-i.state)) = c.put.auto.state in
     let i = c.loop-i.i in
     let y = rw (sized i) at piece in (
       omega arith,
-      rw (sized i) (length_part (1 + i * 241) 241 c.loop-i.state c.put.new.1.1.1.1.0 y ∙ c.loop-i.invariant.1),
+      rw (sized i) (length_part (1 + i * 241) 241 c.loop-i.state c.put.new.state y ∙ c.loop-i.invariant.1),
       rw (sized i) (put_more _ _ _ i _ c.loop-i.invariant.2 _ c.put.ensures (y ∙ part_long i c.args.n c.loop-i.state c.loop-i-test.true long)),
     )
 
