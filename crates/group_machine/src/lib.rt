@@ -19,7 +19,7 @@ use layout::{FIXED, FLAT, MOVING, SCALARS};
 use warp::{SPLITS, Warp};
 
 // The first `count` warps are the group's.
-#[derive(Drop)]
+#[derive(Clone, Copy)]
 pub struct Group {
     pub warps: [Warp; WARPS],
     pub count: usize,
@@ -27,7 +27,7 @@ pub struct Group {
 }
 
 // What a step leaves: its answer, the warp that stopped the group, and the group.
-#[derive(Drop)]
+#[derive(Clone, Copy)]
 pub struct GroupLeft {
     pub answer: Answer,
     pub stopped: u32,
@@ -35,7 +35,7 @@ pub struct GroupLeft {
 }
 
 // What a run leaves; `steps` counts the steps that were taken.
-#[derive(Drop)]
+#[derive(Clone, Copy)]
 pub struct GroupRunLeft {
     pub answer: Answer,
     pub stopped: u32,

@@ -16,14 +16,14 @@ use warp::Warp;
 
 // How a step ended: its number, the warp that stopped the group, and the turn.
 #[repr(C)]
-#[derive(Drop)]
+#[derive(Clone, Copy)]
 pub struct Stepped {
     pub code: u32,
     pub stopped: u32,
     pub turn: u32,
 }
 
-#[derive(Drop)]
+#[derive(Clone, Copy)]
 pub struct StepLeft {
     pub group: Group,
     pub ended: Stepped,
