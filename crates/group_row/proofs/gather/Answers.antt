@@ -1,0 +1,30 @@
+use mathlib.Core.Path.{refl, ap, ◌∙◌}
+use mathlib.Core.List.{List}
+use Prim.Native.Nat.{ℕ, ◌<◌}
+use native.Mathlib.Nat.{le_antisymm}
+use native.Mathlib.Omega.{arith}
+use lib.ListN.{length, get_or, set}
+use Rattle.warp.specs.declared.Warp.{Warp}
+use Rattle.group.specs.GroupRefuse.{warps_limit}
+use Rattle.group_machine.specs.Held.{no_warp}
+use Rattle.group_machine.specs.declared.Group.{Group}
+use Rattle.group_row.specs.Row.{room_of, held_of, overlaid}
+use Rattle.group_row.proofs.Rows.{no_warps, no_warps_lem, room_in, overlay_on}
+use Rattle.group_row.proofs.gather.Goals as goal
+
+pub loop-i-preserved : goal.loop-i-preserved
+loop-i-preserved c =
+    let ys = c.args.ws.now in
+    let i = c.loop-i.i in
+    let m : i < room_of (length ys) = omega (arith, c.room-m.ensures, c.loop-i-test.true) in
+    let r = room_in (length ys) in (
+      omega arith,
+      c.with_warp-g.ensures
+          ∙ ap (λ (z : Group). held_of (set z.warps i (get_or ys i no_warp)) z.count z.turn) c.loop-i.invariant.1
+          ∙ ap (λ (l : List Warp). held_of l (length ys) c.args.turn) (overlay_on i ys no_warps (omega (arith, m, r.0)) (omega (arith, m, r.1, no_warps_lem))),
+    )
+
+pub returns : goal.returns
+returns c =
+    let ys = c.args.ws.now in
+    (c.loop-i.invariant.1 ∙ ap (λ (i : ℕ). held_of (overlaid i ys no_warps) (length ys) c.args.turn) (le_antisymm c.loop-i.invariant.0 c.loop-i-test.false ∙ c.room-m.ensures), refl)

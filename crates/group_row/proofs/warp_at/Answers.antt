@@ -1,0 +1,11 @@
+use mathlib.Core.Path.{◌≡◌, refl}
+use lib.ListN.{length}
+use borrow.Author.Rules.{rules}
+use Rattle.warp.proofs.Chain.{mapped}
+use Rattle.group.specs.GroupRefuse.{warps_limit}
+use Rattle.group_row.proofs.warp_at.Goals as goal
+
+pub returns : goal.returns
+returns c =
+    let full : length c.args.g.warps ≡ warps_limit = search (rules, mapped) in
+    (refl, full)
