@@ -16,7 +16,7 @@ use Rattle.isa.specs.declared.Instr.TheVariants as I
 use Rattle.isa.specs.declared.CsrOp.{CsrOp}
 use Rattle.isa.specs.declared.XReg.{XReg}
 use Rattle.isa.specs.declared.Prefix.{Prefix}
-use Rattle.isa.specs.Prefix.{reg_ext, reg_ext_i, prefix, no_prefix, pending, digits_of, on_fields, Takes, neither, takes_of, allowed, if_allowed, prefixed}
+use Rattle.isa.specs.Prefix.{reg_ext, reg_ext_i, prefix, no_prefix, pending, digits_of, on_fields, neither, takes_of, allowed, if_allowed, prefixed}
 use Rattle.isa.specs.Decode.{decode_of}
 use Rattle.isa.specs.Fits.{ranges_of, Fits}
 use Rattle.isa.proofs.Decoded.{decoded}

@@ -1,7 +1,7 @@
 -- A taken step of a warp keeps its group fit: neither 1 nor 2 refuses what it leaves.
 use Prim.Native.Nat.{ℕ, zero, suc, ◌<◌}
 use mathlib.Core.Path.{◌≡◌, refl, sym, ap, ◌∙◌}
-use mathlib.Core.Bool.{Bool, true, false, cond}
+use mathlib.Core.Bool.{true, false}
 use mathlib.Core.List.{List, [], ◌∷◌, map}
 use native.Mathlib.Nat.{le_of_suc-le-suc}
 use native.Mathlib.Omega.{arith}
@@ -14,14 +14,13 @@ use Rattle.warp.specs.declared.Fixed.{Fixed}
 use Rattle.warp.specs.declared.Warp.{Warp}
 use Rattle.warp.specs.Facts.{Formed}
 use Rattle.warp.specs.Warp.{split_count, zero_warp}
-use Rattle.warp.specs.WellFormed.{well_formed_of}
 use Rattle.warp.proofs.Formed.{formed, well, formed_stop, stopped_none, waiting_free}
-use Rattle.definition.specs.State.{State, fixed_of}
+use Rattle.definition.specs.State.{State}
 use Rattle.definition.specs.Step.{step_of}
-use Rattle.definition.proofs.Sizes.{sizes, sizes_kept}
+use Rattle.definition.proofs.Sizes.{sizes_kept}
 use Rattle.definition.proofs.Sound.{step_sound}
 use Rattle.definition.proofs.Used.{step_within}
-use Rattle.group.specs.Group.{Group, count_of, warp_at, fixeds_of, file_start, file_at, state_at, runs, some_runs, all_ended, freed, settled, gone_on}
+use Rattle.group.specs.Group.{Group, count_of, warp_at, fixeds_of, file_start, file_at, state_at, some_runs, all_ended, freed, settled, gone_on}
 use Rattle.group.specs.GroupRefuse.{fixed_at, goes_on_of}
 use Rattle.group.proofs.GroupLaws.{by_test, by_equal, fixed_at_lem, length_file_kept, length_file, file_inside, length_put, next_below, freed_runs, freed_waits, length_settled, settled_at, settled_goes, settled_fixed}
 use Rattle.group.proofs.GroupFacts.{GroupFit, goes_on}

@@ -12,7 +12,7 @@ use Rattle.warp.proofs.Formed.{formed}
 use Rattle.promises.specs.Reached.{Sound}
 use Rattle.promises.proofs.Refusals.{is_zero}
 use Rattle.promises.proofs.Reached.{reached_sound}
-use Rattle.group.specs.Group.{Group, group, count_of, fixeds_of, warp_at, state_at}
+use Rattle.group.specs.Group.{Group, count_of, fixeds_of, warp_at, state_at}
 use Rattle.group.specs.GroupRefuse.{sizes_ok_of}
 use Rattle.group.specs.GroupCalls.{GroupOutcome, group_step_of, group_run_of}
 use Rattle.group.proofs.GroupLaws.{by_test}

@@ -2,7 +2,7 @@
 use Rattle.std.specs.Prelude.{ℕ, ◌≡◌, true, List, [], ◌∷◌, length, get_or}
 use Rattle.answer.specs.Rows.{one_of}
 use Rattle.memory.specs.Memories.{Contents}
-use Rattle.group_launch.specs.GroupLaunchCall.{cards_in, GroupLaunchCalled, group_launch_called, group_blank_of, group_launch_call_of}
+use Rattle.group_launch.specs.GroupLaunchCall.{cards_in, group_launch_called, group_blank_of, group_launch_call_of}
 use Rattle.group_state.specs.GroupState.{GroupCalled, group_called, group_step_call_of, group_run_call_of}
 use Rattle.promises.specs.Determined.{DeterminedWhole}
 use Rattle.group_promises.specs.Refusals.{group_numbers}

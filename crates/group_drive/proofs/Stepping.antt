@@ -1,37 +1,36 @@
 -- From a step of one warp's words to a step of the group.
-use Prim.Native.Nat.{ℕ, zero, suc, ◌+◌, ◌*◌, ◌<◌, ◌≤◌}
+use Prim.Native.Nat.{ℕ, zero, suc, ◌+◌, ◌<◌, ◌≤◌}
 use mathlib.Core.Path.{◌≡◌, refl, sym, ap, ap₂, ◌∙◌, subst}
-use mathlib.Core.Bool.{Bool, true, false}
+use mathlib.Core.Bool.{true, false}
 use mathlib.Core.List.{List, [], ◌∷◌, ◌++◌}
 use native.Mathlib.Nat.{le_of_suc-le-suc}
 use native.Mathlib.Omega.{arith}
 use lib.ListN.{length, get_or, set, take, drop, length-set, take-append-drop}
 use lib.Seq.{get_or-set_same, get_or-set_other}
-use borrow.Author.Tests.{eq-eqb, ne_eqb}
+use borrow.Author.Tests.{ne_eqb}
 use Rattle.lanes.specs.Lanes.{file_words}
-use Rattle.memory.specs.Memories.{Region, Contents, bytes_at}
+use Rattle.memory.specs.Memories.{Contents}
 use Rattle.warp.specs.declared.Warp.{Warp}
-use Rattle.warp.specs.Warp.{split_count, zero_warp}
-use Rattle.warp.proofs.Formed.{well}
-use Rattle.layout.specs.Words.{fixed_in, warp_of, sound_of}
+use Rattle.warp.specs.Warp.{zero_warp}
+use Rattle.layout.specs.Words.{warp_of}
 use Rattle.layout.proofs.Words.{lent_words}
 use Rattle.definition.specs.State.{State, state, Outcome, outcome}
 use Rattle.definition.specs.Step.{step_of}
 use Rattle.definition.specs.Calls.{Ran}
 use Rattle.definition.proofs.Used.{step_within}
 use Rattle.definition.proofs.Calls.{run_counted, run_one}
-use Rattle.handlers.specs.Handles.{Lists, lists, lent_warp, lent_state}
+use Rattle.handlers.specs.Handles.{Lists, lent_warp, lent_state}
 use Rattle.exec.specs.Ready.{Started}
 use Rattle.drive.specs.Drives.{Drives}
 use Rattle.group.specs.Group.{Group, group, count_of, fixeds_of, file_at, file_start, with_file_at, state_at, next_of, some_runs, all_ended, first_from, settled, gone_on, pick_of}
 use Rattle.group.specs.GroupRefuse.{sizes_ok_of, formed_of}
-use Rattle.group.specs.GroupCalls.{GroupOutcome, group_outcome, group_step_of}
+use Rattle.group.specs.GroupCalls.{group_outcome, group_step_of}
 use Rattle.group.proofs.GroupLaws.{by_test, by_equal, refute, not_ended, runs_is, file_inside, length_file, length_put, gone_on_lem}
 use Rattle.group.proofs.GroupFacts.{GroupFit, group_fit, fit_sizes, fit_formed, going}
 use Rattle.group.proofs.GroupCases.{group_step_ended, group_step_taken, group_step_refused}
 use Rattle.group.proofs.GroupKept.{AllSplits, fit_kept}
 use Rattle.group_words.specs.Row.{Row, row, words_at, warp_in, warps_in, group_in, Picks, Moving, Moves, Warps, Ready}
-use Rattle.group_drive.specs.GroupDrives.{lists_at, turn_after, stopped_by, Turns}
+use Rattle.group_drive.specs.GroupDrives.{lists_at, Turns}
 use Rattle.group_words.proofs.Tabulate.{tab_length, tab_at, tab_set}
 
 -- ---- lists

@@ -1,17 +1,16 @@
 -- From a run of the words to a run of the group.
-use Prim.Native.Nat.{ℕ, zero, suc, ◌+◌, ◌≤◌, ◌<◌, ◌^◌}
+use Prim.Native.Nat.{ℕ, zero, suc, ◌+◌, ◌≤◌, ◌<◌}
 use mathlib.Core.Path.{◌≡◌, refl, sym, ap, ◌∙◌, subst}
-use mathlib.Core.Bool.{Bool, true, false, cond}
-use mathlib.Core.List.{List, [], map}
+use mathlib.Core.Bool.{true, false}
+use mathlib.Core.List.{List, []}
 use native.Mathlib.Omega.{arith}
 use lib.Dec.{leb, ltb}
-use lib.ListN.{length, get_or, take, drop}
-use borrow.Author.Tests.{le-leb, lt-leb, leb-true, leb-false, ltb-true, ltb-false}
+use lib.ListN.{length, get_or}
+use borrow.Author.Tests.{le-leb, lt-leb, leb-false, ltb-true, ltb-false}
 use Rattle.answer.specs.Answer.{last_step_number}
 use Rattle.memory.specs.Memories.{Contents}
 use Rattle.warp.specs.declared.Fixed.{Fixed}
 use Rattle.warp.specs.declared.Warp.{Warp}
-use Rattle.warp.specs.Warp.{split_count, zero_warp}
 use Rattle.warp.specs.WellFormed.{well_formed_of}
 use Rattle.formed.proofs.Formed.{deep_malformed}
 use Rattle.definition.proofs.Tests.{step_last}
@@ -24,7 +23,7 @@ use Rattle.group.specs.GroupCalls.{GroupOutcome, group_outcome, group_step_of, G
 use Rattle.group.proofs.GroupLaws.{by_test, by_equal, refute}
 use Rattle.group.proofs.GroupFacts.{group_formed}
 use Rattle.group.proofs.GroupCases.{by_group_step, group_turn_end, group_turn_on, group_turn_off, group_run_size, group_run_malformed, group_run_steps, group_run_one}
-use Rattle.group_words.specs.Row.{Row, row, group_in, warps_in, fixeds_in, all_sound}
+use Rattle.group_words.specs.Row.{Row, row, fixeds_in}
 use Rattle.group_drive.specs.GroupDrives.{group_words_run_of, GroupRuns}
 use Rattle.group_machine.specs.declared.Group.{Group}
 use Rattle.group_machine.specs.Held.{held, held_step_of, held_run_of, Kept, no_warp, shallow_at, Fixeds, Apart, Together}

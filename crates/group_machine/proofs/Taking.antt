@@ -10,8 +10,8 @@ use lib.Seq.{get_or-set_same, get_or-set_other, get_or-take, get_or-drop, length
 use borrow.Author.Tests.{leb-true}
 use Rattle.memory.specs.Memories.{Contents}
 use Rattle.warp.specs.declared.Warp.{Warp}
-use Rattle.warp.specs.Warp.{split_count, zero_warp, zero_fixed}
-use Rattle.layout.specs.Words.{fixed_in, fixed_words, warp_of, sound_of}
+use Rattle.warp.specs.Warp.{zero_warp, zero_fixed}
+use Rattle.layout.specs.Words.{fixed_in, fixed_words}
 use Rattle.layout.proofs.Words.{apart, apart_sound, flat_long}
 use Rattle.group.specs.Group.{group, fixeds_of}
 use Rattle.lanes.specs.Lanes.{all_below}

@@ -9,12 +9,10 @@ use lib.ListN.{length, take, replicate, length-replicate}
 use lib.Seq.{length-sets, length-take-le}
 use borrow.Author.Tests.{eqb-true, ne_eqb, le-leb, lt-leb, leb-true}
 use Rattle.io.specs.Counts.{IsPrefixLen}
-use Rattle.answer.specs.Rows.{◌⇒◌, first, every}
+use Rattle.answer.specs.Rows.{◌⇒◌, first}
 use Rattle.answer.proofs.Rows.{every_at}
 use Rattle.memory.specs.Memories.{Contents, contents}
 use Rattle.card.specs.Card.{card_size}
-use Rattle.lanes.specs.Lanes.{file_words}
-use Rattle.group.specs.GroupRefuse.{warps_limit}
 use Rattle.group_words.specs.StateWords.{group_words}
 use Rattle.group_launch.specs.GroupLaunchCall.{cards_in, none_is, GroupLaunchCalled, group_launch_called, cards_launch_of, group_launch_number, group_launch_call_of}
 use Rattle.group_state.specs.GroupState.{GroupCalled, group_run_call_of}

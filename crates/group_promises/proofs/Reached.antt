@@ -16,7 +16,7 @@ use Rattle.definition.specs.Calls.{launched_of}
 use Rattle.definition.proofs.Calls.{launch_done}
 use Rattle.promises.specs.Reached as single
 use Rattle.promises.specs.Reached.{Reached, Sound}
-use Rattle.promises.proofs.Reached.{fit, reached_sound}
+use Rattle.promises.proofs.Reached.{reached_sound}
 use Rattle.group.specs.Group.{Group, group, count_of, fixeds_of, file_start, file_at, state_at, some_runs}
 use Rattle.lanes.specs.Lanes.{all_below}
 use Rattle.lanes.proofs.Laws.{below_at}

@@ -3,10 +3,9 @@ use Prim.Native.Nat.{ℕ, zero, suc, ◌+◌, ◌*◌, ◌≤◌, ◌<◌}
 use mathlib.Core.Path.{◌≡◌, refl, sym, ap, ap₂, ◌∙◌, subst}
 use mathlib.Core.Bool.{Bool, true, false, cond}
 use mathlib.Core.List.{List, [], ◌∷◌, ◌++◌, append_assoc, append-nil}
-use native.Mathlib.Nat.{le-suc, le_trans, le_refl}
 use native.Mathlib.Omega.{arith}
 use lib.Dec.{eqb, leb, ltb}
-use lib.ListN.{length, get_or, take, drop, length-drop, take-append-drop, drop_of_length-le}
+use lib.ListN.{length, get_or, drop, length-drop, take-append-drop, drop_of_length-le}
 use lib.Seq.{length-take-le, drop-drop}
 use borrow.Author.Tests.{eqb-true, leb-true, ltb-false}
 use Rattle.answer.specs.Rows.{first, between}
@@ -15,21 +14,21 @@ use Rattle.lanes.proofs.Laws.{below_same, below_at}
 use Rattle.memory.specs.Memories.{Contents}
 use Rattle.warp.specs.declared.Warp.{Warp}
 use Rattle.warp.specs.Warp.{zero_warp}
-use Rattle.layout.specs.Words.{state_words, scalar_part, split_part, moving_part, fixed_part, words_of, warp_in as warpOn, sound_in, warp_of, sound_of}
+use Rattle.layout.specs.Words.{state_words, words_of, warp_in as warpOn, sound_in}
 use Rattle.layout.proofs.Words.{together_words, parts_whole, split_long, moving_long, fixed_long, warp_words_lem}
-use Rattle.group.specs.Group.{Group, group, count_of, warp_at, fixeds_of}
+use Rattle.group.specs.Group.{Group, group, fixeds_of}
 use Rattle.group.specs.GroupRefuse.{warps_limit, sizes_ok_of}
-use Rattle.group.specs.GroupCalls.{GroupOutcome, group_outcome, GroupRan, group_ran, group_run_of}
+use Rattle.group.specs.GroupCalls.{group_outcome, GroupRan, group_ran, group_run_of}
 use Rattle.group.proofs.GroupLaws.{by_test}
 use Rattle.group.proofs.GroupCases.{group_run_size, group_run_one}
-use Rattle.group_words.specs.Row.{Row, row, words_at, tabulate, warp_in, group_in as rowGroup, Rooms, all_sound, fixeds_in}
+use Rattle.group_words.specs.Row.{Row, words_at, tabulate, warp_in, group_in as rowGroup, Rooms, all_sound, fixeds_in}
 use Rattle.group_drive.specs.GroupDrives.{group_words_run_of, GroupRuns}
 use Rattle.group_words.specs.StateWords.{joined, state_words_of}
 use Rattle.group_words.proofs.StateWords.{joined_same}
 use Rattle.group_words.proofs.Tabulate.{tab_length, tab_at, tab_same}
 use Rattle.group_words.proofs.Sound.{sound_at_lem, fixeds_are}
 use Rattle.group_state.specs.GroupState.{count_in, is_group, words_in, group_in, all_sound_in, GroupCalled, group_called, group_words_tests, group_step_call_of, group_run_call_of}
-use Rattle.group_state.specs.Got.{Halls, Got, put_at}
+use Rattle.group_state.specs.Got.{Got, put_at}
 
 -- ---- a state that has a group's length
 

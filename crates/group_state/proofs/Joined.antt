@@ -1,10 +1,10 @@
 -- Words one after another, and lists of lists written one by one.
-use Prim.Native.Nat.{ℕ, zero, suc, ◌+◌, ◌*◌, ◌<◌}
+use Prim.Native.Nat.{ℕ, ◌+◌, ◌*◌, ◌<◌}
 use mathlib.Core.Path.{◌≡◌, refl, sym, ap, ◌∙◌, subst}
 use mathlib.Core.List.{List, [], ◌∷◌, ◌++◌, append_assoc, append-nil}
 use native.Mathlib.Numerals.{add-one}
 use native.Mathlib.Omega.{arith}
-use lib.ListN.{length, get_or, set, take, drop, length-set, length-append, drop_of_length-le, take-append-drop}
+use lib.ListN.{length, set, take, drop, length-set, length-append, drop_of_length-le, take-append-drop}
 use lib.Seq.{get_or-set_same, get_or-set_other, take_at, drop_at, drop-drop, length_front}
 use Rattle.group.specs.GroupRefuse.{warps_limit}
 use Rattle.group.proofs.GroupLaws.{by_equal}

@@ -1,16 +1,15 @@
 -- Going round the warps from one on: the first that runs, or none.
-use Prim.Native.Nat.{ℕ, suc, ◌+◌, ◌%◌, ◌≤◌, ◌<◌}
+use Prim.Native.Nat.{ℕ, ◌+◌, ◌%◌, ◌≤◌, ◌<◌}
 use mathlib.Core.Path.{◌≡◌, refl, sym, ap, ◌∙◌, subst}
 use mathlib.Core.Bool.{true, false}
 use mathlib.Core.List.{List}
 use mathlib.Core.Logic.{⊎_elim}
-use native.Mathlib.Nat.{eq-or-lt_of_le, le_of_suc-le-suc, mod-eq_of_lt, mod_self, mod-add-mod}
-use native.Mathlib.Numerals.{add-one}
+use native.Mathlib.Nat.{eq-or-lt_of_le, mod-eq_of_lt, mod_self, mod-add-mod}
 use native.Mathlib.Omega.{arith}
 use lib.ListN.{length, get_or}
 use Rattle.warp.specs.declared.Warp.{Warp}
 use Rattle.warp.specs.Warp.{zero_warp}
-use Rattle.group.specs.Group.{next_of, runs, some_runs, first_from}
+use Rattle.group.specs.Group.{next_of, runs, first_from}
 use Rattle.group.proofs.GroupLaws.{after, after_none, within, first_is, all_stopped}
 use Rattle.group_words.specs.Row.{Picks}
 

@@ -1,14 +1,14 @@
 -- Lists made of a function on numbers.
 use Prim.Native.Nat.{ℕ, zero, suc, ◌+◌, ◌<◌}
-use mathlib.Core.Path.{◌≡◌, refl, sym, ap, ap₂, ◌∙◌, subst}
-use mathlib.Core.List.{List, [], ◌∷◌, ◌++◌, map}
+use mathlib.Core.Path.{◌≡◌, refl, sym, ap, ◌∙◌, subst}
+use mathlib.Core.List.{List, [], ◌∷◌, map}
 use mathlib.Core.Logic.{⊎_elim}
 use native.Mathlib.Nat.{eq-or-lt_of_le, le_of_suc-le-suc}
 use native.Mathlib.Numerals.{add-one}
 use native.Mathlib.Omega.{arith}
 use lib.ListN.{length, get_or, set, length-append, length-set, length-map, get_or-append, get_or-map}
 use lib.Seq.{get_or_at, get_or-set_same, get_or-set_other, ext_get_or}
-use Rattle.group.proofs.GroupLaws.{by_equal, get_d_map_in}
+use Rattle.group.proofs.GroupLaws.{by_equal}
 use Rattle.group_words.specs.Row.{tabulate}
 
 module _ {A : Type 0} where

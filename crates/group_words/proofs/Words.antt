@@ -9,14 +9,13 @@ use lib.Dec.{eqb}
 use lib.ListN.{length, get_or, set, length-set, replicate, length-replicate}
 use lib.Seq.{get_or-set_same, get_or-set_other}
 use borrow.Author.Tests.{eq-eqb, ne_eqb}
-use Rattle.layout.specs.Words.{moving_count, flat_count, is_set, ended_at, waiting_at, waiting_in, warp_of, sound_of}
+use Rattle.layout.specs.Words.{moving_count, flat_count, is_set, ended_at, waiting_at, waiting_in, warp_of}
 use Rattle.warp.specs.Warp.{zero_warp}
-use Rattle.warp.specs.declared.Warp.{Warp}
 use Rattle.running.specs.Goes.{Goes}
 use Rattle.running.proofs.Goes.{stop_goes}
 use Rattle.group.specs.Group.{runs, freed, settled}
 use Rattle.group.proofs.GroupLaws.{by_equal, some_runs_lem, freed_runs, freed_waits, settled_on, settled_off}
-use Rattle.group_words.specs.Row.{Row, row, words_at, warp_in, warps_in, runs_in, Picks, Moving, Moves}
+use Rattle.group_words.specs.Row.{row, words_at, warp_in, warps_in, runs_in, Picks, Moving, Moves}
 use Rattle.group_words.proofs.Tabulate.{tab_length, tab_at, tab_same, tab_map}
 
 -- the code's test of the two words

@@ -26,7 +26,7 @@ use Rattle.warp.specs.WellFormed.{fixed_ok_of, all_zero, chain_of, prefix_ok_of,
 use Rattle.warp.proofs.Chain.{chain_le}
 use Rattle.definition.specs.State.{State, Outcome, fixed_of, active, instr_at, used_up}
 use Rattle.definition.specs.Refuse.{runs_ok_of, step_tests, tests_of}
-use Rattle.definition.specs.Exec.{Effect, effect, effect_of}
+use Rattle.definition.specs.Exec.{Effect, effect}
 use Rattle.definition.specs.Step.{carried_out, step_of}
 use Rattle.isa.specs.Prefix.{pending}
 use Rattle.definition.proofs.Sizes.{sizes, sizes_kept}

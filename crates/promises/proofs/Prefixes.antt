@@ -1,7 +1,7 @@
 -- The prefixes REGEXT and REGEXTI.
-use Prim.Native.Nat.{ℕ, ◌+◌, ◌-◌, ◌*◌, ◌/◌, ◌%◌, ◌^◌, ◌<◌, ◌≤◌}
+use Prim.Native.Nat.{ℕ, ◌+◌, ◌*◌, ◌/◌, ◌%◌, ◌^◌}
 use mathlib.Core.Path.{◌≡◌, refl, sym, ap, ap₂, ◌∙◌}
-use mathlib.Core.Bool.{Bool, true, false, not, ◌&&◌, ◌||◌, cond}
+use mathlib.Core.Bool.{Bool, true, false, not, ◌&&◌, ◌||◌}
 use mathlib.Core.List.{List, [], ◌∷◌, ◌++◌, append-nil}
 use native.Mathlib.Omega.{arith}
 use lib.Dec.{eqb, leb, ltb}
@@ -15,9 +15,8 @@ use Rattle.isa.specs.declared.Instr.{Instr}
 use Rattle.isa.specs.declared.Instr.TheVariants as I
 use Rattle.isa.specs.declared.CsrOp.{CsrOp}
 use Rattle.isa.specs.declared.XReg.{XReg}
-use Rattle.isa.specs.declared.Prefix.{Prefix}
 use Rattle.isa.specs.Decode.{decode_of}
-use Rattle.isa.specs.Prefix.{reg_ext, reg_ext_i, prefix, no_prefix, pending, ext_of, ext_iof, on_fields, takes_of, allowed, prefixed}
+use Rattle.isa.specs.Prefix.{reg_ext, reg_ext_i, prefix, no_prefix, pending, takes_of, allowed, prefixed}
 use Rattle.isa.proofs.Digits.{v_same, zero_digits}
 use Rattle.warp.specs.declared.Warp.{Warp}
 use Rattle.warp.specs.Warp.{split_count, aligned, with_prefix, next, write_x, pends}

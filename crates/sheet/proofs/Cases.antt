@@ -1,5 +1,5 @@
 -- Marking and writing the model sheet, case by case.
-use Prim.Native.Nat.{ℕ, suc, ◌≤◌, ◌<◌}
+use Prim.Native.Nat.{ℕ, ◌≤◌, ◌<◌}
 use mathlib.Core.Path.{◌≡◌, refl, sym, ap, ap₂, ◌∙◌}
 use mathlib.Core.Bool.{Bool, true, false, not, ◌&&◌, true≢false}
 use mathlib.Core.List.{List, [], ◌∷◌, ◌++◌, flatten}
@@ -12,7 +12,7 @@ use Rattle.answer.specs.Rows.{Row, ◌⇒◌, first}
 use Rattle.memory.specs.Memories.{alone}
 use Rattle.warp.specs.declared.Launch.{Launch}
 use Rattle.warp.specs.WellFormed.{launch_ok_of}
-use Rattle.definition.specs.State.{State, Outcome}
+use Rattle.definition.specs.State.{State}
 use Rattle.definition.specs.Refuse.{runs_ok_of, launch_tests}
 use Rattle.definition.specs.Step.{step_of}
 use Rattle.definition.specs.Calls.{Ran, run_of}

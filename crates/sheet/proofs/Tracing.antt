@@ -10,7 +10,7 @@ use Rattle.big_endian.specs.Layout.{bytes_of}
 use Rattle.memory.specs.Memories.{Data}
 use Rattle.definition.specs.State.{State, Outcome, place_of}
 use Rattle.definition.specs.Step.{step_of}
-use Rattle.definition.specs.Calls.{Ran, ran, steps_of, run_of}
+use Rattle.definition.specs.Calls.{Ran, steps_of, run_of}
 use Rattle.definition.proofs.Used.{step_within}
 use Rattle.definition.proofs.Calls.{steps_end, steps_on, steps_stop, run_counted}
 use Rattle.sheet_lines.specs.Sheet.{head_size, line_size, step_limit, line_values, line_bytes, lines_of}

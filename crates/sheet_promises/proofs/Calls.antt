@@ -1,7 +1,7 @@
 -- What a C host is promised of the two calls.
 use Prim.Native.Nat.{ℕ}
-use mathlib.Core.Path.{◌≡◌, refl, sym, ap, ◌∙◌}
-use mathlib.Core.Bool.{Bool, true, false, not, cond}
+use mathlib.Core.Path.{◌≡◌, refl, ap}
+use mathlib.Core.Bool.{Bool, true, false, not}
 use mathlib.Core.List.{List, [], ◌∷◌}
 use native.Mathlib.Omega.{arith}
 use lib.Dec.{eqb}
@@ -16,8 +16,8 @@ use Rattle.promises.proofs.Refusals.{is_zero}
 use Rattle.promises.proofs.Determined.{determined_whole}
 use Rattle.sheet_lines.specs.declared.Marks.{Marks}
 use Rattle.sheet_lines.specs.declared.Marks.TheVariants.{NoMarks}
-use Rattle.sheet.specs.Mark.{lent_runs, mark_tests, mark_of, model_tests, model_of}
-use Rattle.capi_sheet.specs.Calls.{fitted, marks_words, call_number, MarkCalled, mark_called, mark_call_of, SheetCalled, sheet_called, sheet_call_of}
+use Rattle.sheet.specs.Mark.{mark_tests, model_tests}
+use Rattle.capi_sheet.specs.Calls.{fitted, marks_words, call_number, MarkCalled, mark_call_of, SheetCalled, sheet_call_of}
 use Rattle.sheet_promises.specs.Calls.{MarkCallAnswers, SheetCallAnswers, MarkCallBlank, SheetCallBlank, MarkCallRoom, MarkCallDetermined, SheetCallDetermined}
 use Rattle.sheet_promises.proofs.Marks.{mark_number_lem, refused_unmarked, model_number_lem, model_unwritten}
 

@@ -8,7 +8,6 @@ use Rattle.isa.specs.Ventus.{warp_word, stop_word, end_prg_word}
 use Rattle.isa.specs.Prefix.{prefixed}
 use Rattle.lanes.specs.Lanes.{file_words}
 use Rattle.lanes.specs.Mask.{bit_at}
-use Rattle.warp.specs.declared.Launch.{Launch}
 use Rattle.warp.specs.WellFormed.{fixed_ok_of, split_ok_of, chain_of, all_zero, prefix_ok_of, well_formed_of}
 use Rattle.definition.specs.Refuse.{runs_ok_of, refusals_of}
 use Rattle.definition.specs.Exec.{effect_of}

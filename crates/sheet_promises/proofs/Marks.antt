@@ -1,17 +1,17 @@
 -- What marking promises.
-use Prim.Native.Nat.{ℕ, ◌+◌, ◌≤◌, ◌<◌}
+use Prim.Native.Nat.{ℕ, ◌+◌, ◌≤◌}
 use mathlib.Core.Path.{◌≡◌, refl, sym, ap, ap₂, ◌∙◌, subst}
-use mathlib.Core.Bool.{Bool, true, false, not, ◌&&◌, cond, true≢false}
+use mathlib.Core.Bool.{Bool, true, false, not, true≢false}
 use mathlib.Core.List.{List, [], ◌∷◌, ◌++◌}
 use native.Mathlib.Omega.{arith}
 use native.Mathlib.Nat.{zero-add}
 use lib.Dec.{eqb, leb}
 use lib.ListN.{length, take, drop, replicate, length-append}
-use lib.Seq.{sets, sets-eq, length-sets, take_at, length-take-le}
-use borrow.Author.Tests.{eqb-true, eqb-false, eq-eqb, ne_eqb, leb-true, le-leb, not-true}
+use lib.Seq.{sets-eq, take_at, length-take-le}
+use borrow.Author.Tests.{eqb-false, ne_eqb, leb-true, le-leb}
 use Rattle.answer.specs.declared.Answer.{Answer}
 use Rattle.answer.specs.Rows.{◌⇒◌, first, Iff}
-use Rattle.answer.proofs.Rows.{both, passed}
+use Rattle.answer.proofs.Rows.{passed}
 use Rattle.answer.proofs.Numbers.{number_one}
 use Rattle.lanes.specs.Lanes.{file_words}
 use Rattle.memory.specs.Memories.{alone}
@@ -25,15 +25,13 @@ use Rattle.definition.proofs.Calls.{launch_done}
 use Rattle.promises.proofs.Refusals.{is_zero}
 use Rattle.promises.proofs.Determined.{determined_whole}
 use Rattle.promises.specs.Determined.{ShowsAll}
-use Rattle.sheet_lines.specs.declared.Marks.{Marks}
 use Rattle.sheet_lines.specs.declared.Marks.TheVariants.{NoMarks, Full}
 use Rattle.sheet_lines.specs.Sheet.{head_size, step_limit, sheet_size, sheet_of, sheet_ok_of, steps_in, lines_in}
 use Rattle.sheet_lines.specs.Compare.{marks_number, compare_of}
 use Rattle.sheet_lines.proofs.Lines.{Lines, own_lines, lines_few}
 use Rattle.sheet_lines.proofs.Sheets.{sheet_length}
-use Rattle.sheet.specs.Mark.{own_start, own_of, own_end, no_steps, LentRuns, lent_runs, lent_runs_of, Marking, marking, mark_tests, mark_of, Modelling, modelling, model_tests, model_of, sheet_room}
-use Rattle.sheet_promises.specs.Sheets.{AllBytes}
-use Rattle.sheet_promises.specs.Marks.{written_of, FullExactly, ModelFull, EmptyRefused, EmptyNever, NoStepsNever, CutNever, Says, MarkSays, MarkAnswers, ModelAnswers, ran_lent, LeftBy, MarkLeaves, ModelLeaves, TargetKept, TargetWritten, MarkLeft, ModelLeft, mark_seen, model_seen, MarkDetermined, ModelDetermined}
+use Rattle.sheet.specs.Mark.{own_start, own_of, own_end, no_steps, LentRuns, lent_runs, lent_runs_of, Marking, marking, mark_of, Modelling, model_of, sheet_room}
+use Rattle.sheet_promises.specs.Marks.{written_of, FullExactly, ModelFull, EmptyRefused, EmptyNever, NoStepsNever, CutNever, Says, MarkSays, MarkAnswers, ModelAnswers, LeftBy, MarkLeaves, ModelLeaves, TargetKept, TargetWritten, mark_seen, model_seen, MarkDetermined, ModelDetermined}
 use Rattle.sheet_promises.proofs.RoundTrip.{sheet_says, lines_long, sheet_back, sheet_formed, sheet_lines}
 use Rattle.sheet_promises.proofs.Compares.{says}
 

@@ -1,5 +1,5 @@
 -- What marking promises. k is the kernel, l the launch, v the vector file, d the data, s the sheet handed in, t a target for the model sheet.
-use Rattle.std.specs.Prelude.{ℕ, suc, ◌<◌, ◌≤◌, ◌≡◌, Bool, true, false, List, [], ◌∷◌, ◌++◌, length, take, drop, replicate}
+use Rattle.std.specs.Prelude.{ℕ, suc, ◌<◌, ◌≤◌, ◌≡◌, true, false, List, [], ◌∷◌, ◌++◌, length, take, drop, replicate}
 use Rattle.answer.specs.Answer.{number_of}
 use Rattle.answer.specs.Rows.{Iff}
 use Rattle.lanes.specs.Lanes.{file_words}

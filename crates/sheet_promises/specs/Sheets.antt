@@ -5,7 +5,7 @@ use Rattle.definition.specs.State.{State, outcome}
 use Rattle.definition.specs.Step.{step_of}
 use Rattle.definition.specs.Calls.{run_of}
 use Rattle.promises.specs.Runs.{Steps}
-use Rattle.sheet_lines.specs.Sheet.{line, line_size, step_limit, line_values, line_bytes, lines_of}
+use Rattle.sheet_lines.specs.Sheet.{line, line_size, line_values, line_bytes, lines_of}
 
 -- every element is a byte, as those of a lent run of bytes are
 abbrev pub AllBytes : List ℕ → Type 0

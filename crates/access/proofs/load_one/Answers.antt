@@ -1,6 +1,6 @@
 use mathlib.Core.Path.{◌≡◌, sym, ◌∙◌}
 use Rattle.memory.specs.Memory.{size_of, inside_of}
-use Rattle.memory.specs.Memories.{Data, contents, Memories, memories, memory_at}
+use Rattle.memory.specs.Memories.{Data, contents, memories, memory_at}
 use Rattle.memory.proofs.Access.{then_local}
 use Rattle.memory.proofs.Laws.{load_data, load_local}
 use Rattle.access.proofs.load_one.Goals as goal

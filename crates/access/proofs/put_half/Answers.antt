@@ -8,7 +8,7 @@ use Rattle.access.proofs.put_half.Goals as goal
 
 pub returns : goal.returns
 unfolding le_bytes
-returns c = 
+returns c =
     let g = c.args in
     c.put_byte-2.ensures
     ∙ ap (λ (u : List ℕ). sets u (g.i + 1) (le_bytes 1 (g.x / 256))) c.put_byte.ensures

@@ -2,7 +2,7 @@ use mathlib.Core.Path.{◌≡◌, sym, ap, ◌∙◌}
 use mathlib.Core.List.{List}
 use Prim.Native.Nat.{ℕ}
 use Rattle.memory.specs.Memory.{width_of, inside_of}
-use Rattle.memory.specs.Memories.{Data, contents, Memories, memories, memory_at}
+use Rattle.memory.specs.Memories.{Data, contents, memories, memory_at}
 use Rattle.memory.proofs.Access.{then_local}
 use Rattle.memory.proofs.Laws.{store_data, store_local}
 use Rattle.access.proofs.put_one.Goals as goal

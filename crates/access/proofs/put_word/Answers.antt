@@ -8,7 +8,7 @@ use Rattle.access.proofs.put_word.Goals as goal
 
 pub returns : goal.returns
 unfolding le_bytes
-returns c = 
+returns c =
     let g = c.args in
     c.put_half-2.ensures
     ∙ ap (λ (u : List ℕ). sets u (g.i + 2) (le_bytes 2 (g.x / 256 / 256))) c.put_half.ensures

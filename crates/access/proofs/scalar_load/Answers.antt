@@ -1,8 +1,7 @@
 use mathlib.Core.Path.{◌≡◌, sym, ap, ◌∙◌}
-use mathlib.Core.Bool.{false}
 use Rattle.memory.specs.declared.Loaded.TheVariants.{Found}
 use Rattle.memory.specs.Memory.{size_of, inside_of}
-use Rattle.memory.specs.Memories.{Data, Local, contents, Memories, memories, memory_at}
+use Rattle.memory.specs.Memories.{Data, Local, contents, memories, memory_at}
 use Rattle.memory.proofs.Access.{in_data, in_local, in_neither}
 use Rattle.memory.proofs.Laws.{load_data, load_local}
 use Rattle.access.proofs.scalar_load.Goals as goal

@@ -1,9 +1,8 @@
 use mathlib.Core.Path.{◌≡◌, refl, sym, ap, ◌∙◌}
-use mathlib.Core.Bool.{false}
 use mathlib.Core.List.{List}
 use Prim.Native.Nat.{ℕ}
 use Rattle.memory.specs.Memory.{width_of, inside_of}
-use Rattle.memory.specs.Memories.{Data, Local, contents, Memories, memories, memory_at}
+use Rattle.memory.specs.Memories.{Data, Local, contents, memories, memory_at}
 use Rattle.memory.proofs.Access.{in_data, in_local, in_neither}
 use Rattle.memory.proofs.Laws.{store_data, store_local}
 use Rattle.access.proofs.scalar_store.Goals as goal

@@ -10,18 +10,14 @@ use Rattle.card.proofs.launch_at.Goals as goal
 on_card : (n i : ℕ) → n ≡ card_size → T (leb i card_size) → i ≤ n
 on_card n i e t = rw e (leb→le i card_size t)
 
-
 infixr 68 ◌▸◌
-
 -- equal values, side by side
 ◌▸◌ : {w : ℕ} {ws : List ℕ} {x y : ℕ} {xs ys : Values ws} → x ≡ y → xs ≡ ys → ◌▹◌ {w = w} x xs ≡ y ▹ ys
 ◌▸◌ {w} {ws} e es = ap₂ (λ (z : ℕ) (zs : Values ws). ◌▹◌ {w = w} z zs) e es
 
-
 launch_is : (d : List ℕ) {v : Values layout} → v ≡ values_at layout d 0 → launch_from v ≡ launch_at d
 unfolding launch_at
 launch_is d e = ap launch_from e
-
 
 pub byte_at-requires : goal.byte_at-requires
 byte_at-requires c = on_card _ _ c.requires tt

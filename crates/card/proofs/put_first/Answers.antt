@@ -4,7 +4,7 @@ use Rattle.card.proofs.put_first.Goals as goal
 
 -- put by put, the last first: cc finds it too, far slower
 pub returns : goal.returns
-returns c = 
+returns c =
     let l = c.args.l in
     ap (puts_rest l 9 22) c.put_word-4.ensures
     ∙ ap (puts_rest l 8 18) c.put_word-3.ensures

@@ -4,7 +4,7 @@ use Rattle.card.proofs.put_later.Goals as goal
 
 -- put by put, the last first: cc finds it too, far slower
 pub returns : goal.returns
-returns c = 
+returns c =
     let l = c.args.l in
     ap (puts_rest l 16 50) c.put_word-7.ensures
     ∙ ap (puts_rest l 15 46) c.put_word-6.ensures

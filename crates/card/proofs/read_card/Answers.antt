@@ -1,4 +1,3 @@
-use borrow.Author.Tests.{not-true, not-false}
 use mathlib.Core.Path.{sym, ap, ◌∙◌}
 use Rattle.warp.specs.WellFormed.{launch_ok_of}
 use Rattle.card.proofs.CardLaws.{read_total, read_head, read_range, read_done}

@@ -1,4 +1,3 @@
-use borrow.Author.Tests.{not-true, not-false}
 use mathlib.Core.Path.{sym, ap, ◌∙◌}
 use Rattle.card.specs.Card.{values_of, card_of, writing}
 use Rattle.big_endian.proofs.LayoutLaws.{puts_all_lem}
@@ -14,7 +13,7 @@ returns-then-not-launch_ok c = write_range _ _ (omega arith) (sym c.launch_ok.en
 
 pub returns : goal.returns
 unfolding card_of
-returns c = 
+returns c =
     let size = c.if-target-ne-CARD_SIZE.false in
     ap (writing 0) (c.put_later.ensures ∙ c.put_first.ensures ∙ puts_all_lem (values_of _) _ size)
     ∙ write_done _ _ size (sym c.launch_ok.ensures ∙ c.if-not-launch_ok.false)

@@ -71,7 +71,7 @@ returns-in-43 c = simp c.in-43.is c.private.ensures
 
 pub returns-in_default : goal.returns-in_default
 unfolding row_of decode_of
-returns-in_default c = 
+returns-in_default c =
     let w = c.args.w in
     let other = apart (0b0110011 ∷ 0b0010011 ∷ 0b1100011 ∷ 0b1110011 ∷ 0b1010111 ∷ 0b1011011 ∷ 0b1111011 ∷ []) c.requires in
     range_out (λ make. make) (fields_of w) (w % 128) [] opcodes

@@ -51,7 +51,7 @@ join-requires c = search rules
 
 pub by_opcode-requires : goal.by_opcode-requires
 unfolding row_of decode_of splits_word cond_of lane_access_word load_op_of lane_store_op_of
-by_opcode-requires c = 
+by_opcode-requires c =
     let before = apart (0b0110011 ∷ 0b0010011 ∷ 0b1100011 ∷ 0b1110011 ∷ []) c.requires in
     let other = no_row (eight 0b1010111 ++ eight 0b1011011 ++ eight 0b1111011) (omega arith) c.index.ensures c.in_default.in_default-own.rest in
     not_one (Unit {0}) _ (0b0110011 ∷ 0b0010011 ∷ 0b1100011 ∷ 0b1110011 ∷ 0b1010111 ∷ 0b1011011 ∷ 0b1111011 ∷ []) (

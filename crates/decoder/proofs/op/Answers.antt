@@ -89,7 +89,7 @@ returns-in-261 c = let e = codes (omega arith) c.index.ensures c.in-261.is in si
 
 pub returns-in_default : goal.returns-in_default
 unfolding row_of op_word by_funct3
-returns-in_default c = 
+returns-in_default c =
     let f = fields_of c.args.w in
     let i = c.index.ensures in
     let r = c.in_default.in_default-own.rest in

@@ -17,7 +17,7 @@ fixed-requires c = search rules
 
 pub returns : goal.returns
 unfolding prefix_word
-returns c make e = 
+returns c make e =
     let f = fields_of c.args.w in
     c.fixed.ensures c.args.w
     ∙ ap (fixed (f.rs1 + f.rd) 0) e

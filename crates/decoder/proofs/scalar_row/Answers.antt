@@ -23,7 +23,7 @@ shift-requires-in-157 c = search rules
 
 pub lane_row-requires : goal.lane_row-requires
 unfolding row_of decode_of op_imm_word branch_word cond_of csr_word any_csr_word csr_op_of
-lane_row-requires c = 
+lane_row-requires c =
     let other = no_row (eight 0b0010011 ++ eight 0b1100011 ++ eight 0b1110011) (omega arith) c.index.ensures c.in_default.in_default-own.rest in
     not_one (Unit {0}) _ (0b0110011 ∷ 0b0010011 ∷ 0b1100011 ∷ 0b1110011 ∷ [])
     ((((tt, c.requires), other 0b0010011 tt), other 0b1100011 tt), other 0b1110011 tt)

@@ -1,4 +1,3 @@
-use Prim.Native.Nat.{◌-◌}
 use mathlib.Core.Path.{refl}
 use Rattle.memory.specs.Memories.{Data, Local}
 use Rattle.drive.proofs.Runs.{going_start, going_on, step_lengths, drives_stop, drives_end}

@@ -7,7 +7,7 @@ use Rattle.drive.proofs.Runs.{words_size, words_malformed, words_started, words_
 use Rattle.drive.proofs.run_words.Goals as goal
 
 pub returns-then-not-runs_ok : goal.returns-then-not-runs_ok
-returns-then-not-runs_ok c = 
+returns-then-not-runs_ok c =
     let f = c.fixed_in.ensures in
     let l = c.requires in
     words_size _ _ _ l.0 l.1 (rw f at (sym c.runs_ok.ensures ∙ c.if-not-runs_ok.true))

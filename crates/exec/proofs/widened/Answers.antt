@@ -13,11 +13,11 @@ pub takes-requires : goal.takes-requires
 takes-requires c = omega (arith, c.if-kind-eq0.false)
 
 pub returns-then-not-takes : goal.returns-then-not-takes
-returns-then-not-takes c = 
+returns-then-not-takes c =
     let a = c.args in
     widens_not (prefix_in a.h.now) a.w _ (subst (λ (t : Bool). Judged t (prefix_in a.h.now) a.w) c.if-not-takes.true c.takes.ensures)
 
 pub returns : goal.returns
-returns c = 
+returns c =
     let a = c.args in
     rw c.widen.ensures (widens_so (prefix_in a.h.now) a.w (omega arith) (prefix_bits (prefix_in a.h.now) c.requires) c.if-kind-eq0.false (subst (λ (t : Bool). Judged t (prefix_in a.h.now) a.w) c.if-not-takes.false c.takes.ensures))

@@ -7,12 +7,12 @@ pub loop-k-init : goal.loop-k-init
 loop-k-init c = (search rules, refl)
 
 pub returns-then-not-open_ok : goal.returns-then-not-open_ok
-returns-then-not-open_ok c = 
+returns-then-not-open_ok c =
     let a = c.args in
     sym (c.loop-k.invariant.1 ∙ open_stop a.launchMask a.s.now c.loop-k.k c.loop-k.m (search rules) (search rules) c.open_ok.result c.open_ok.ensures c.if-not-open_ok.true)
 
 pub loop-k-preserved : goal.loop-k-preserved
-loop-k-preserved c = 
+loop-k-preserved c =
     let a = c.args in (
       search rules,
       c.loop-k.invariant.1 ∙ open_go a.launchMask a.s.now c.loop-k.k c.loop-k.m (search rules) (search rules) c.open_ok.result c.open_ok.ensures c.if-not-open_ok.false,

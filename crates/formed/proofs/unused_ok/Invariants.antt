@@ -11,7 +11,5 @@ use Rattle.formed.proofs.unused_ok.Given as goal
 abbrev pub invariant-loop-i : goal.invariant-loop-i
 invariant-loop-i l = (l.i ≤ flat_count) × (all_zero (drop l.depth (splits_in l.s)) ≡ (eqb l.any 0 && zeros_from l.s l.i (flat_count - l.i)))
 
-
 abbrev pub decreases-loop-i : goal.decreases-loop-i
 decreases-loop-i l = flat_count - l.i
-

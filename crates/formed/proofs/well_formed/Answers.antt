@@ -10,7 +10,6 @@ use Rattle.formed.proofs.well_formed.Goals.{Start}
 long : (c : Start) → length c.args.w.splits ≡ split_count
 long c = search (rules, mapped)
 
-
 pub returns-then-w-gt-SPLITS : goal.returns-then-w-gt-SPLITS
 returns-then-w-gt-SPLITS c = sym (deep_malformed _ c.if-w-gt-SPLITS.true)
 

@@ -4,12 +4,12 @@ use Rattle.formed.proofs.Formed.{formed_deep, formed_words}
 use Rattle.formed.proofs.words_ok.Goals as goal
 
 pub returns-then-depth-gt-SPLITS : goal.returns-then-depth-gt-SPLITS
-returns-then-depth-gt-SPLITS c = 
+returns-then-depth-gt-SPLITS c =
     let a = c.args in
     formed_deep a.g.now a.h.now a.x.now a.s.now (rw c.wide-depth.ensures at c.if-depth-gt-SPLITS.true)
 
 pub returns : goal.returns
-returns c = 
+returns c =
     let a = c.args in
     let e = c.wide-depth.ensures in
     rw e

@@ -9,7 +9,6 @@ use Rattle.group_drive.proofs.step_group.Goals as goal
 sized : (i : ℕ) → i * 8192 + 8192 - i * 8192 ≡ 8192
 sized i = omega arith
 
-
 pub pick-i-requires : goal.pick-i-requires
 pick-i-requires c = (c.requires.0, c.requires.1.warps.few)
 

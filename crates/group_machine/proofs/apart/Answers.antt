@@ -1,4 +1,4 @@
-use Prim.Native.Nat.{ℕ, ◌-◌}
+use Prim.Native.Nat.{ℕ}
 use mathlib.Core.Path.{refl, subst}
 use native.Mathlib.Nat.{le_antisymm}
 use native.Mathlib.Omega.{arith}
@@ -17,9 +17,9 @@ moving_of-requires c = leb-true _ _ (below_at _ (shallow_at c.args.ws) c.require
 
 pub loop-i-preserved : goal.loop-i-preserved
 loop-i-preserved c = (
-      omega arith,
-      apart_on _ _ _ _ _ c.loop-i.invariant.1 (search rules) _ _ _ (record { moving = c.moving_of.ensures; scalars = refl; splits = c.split_words.ensures.0; long = c.split_words.ensures.1 }),
-    )
+  omega arith,
+  apart_on _ _ _ _ _ c.loop-i.invariant.1 (search rules) _ _ _ (record { moving = c.moving_of.ensures; scalars = refl; splits = c.split_words.ensures.0; long = c.split_words.ensures.1 }),
+)
 
 pub returns : goal.returns
 returns c = subst (λ (i : ℕ). Apart i c.args.ws c.loop-i.hs c.loop-i.xs c.loop-i.ss) (le_antisymm c.loop-i.invariant.0 c.loop-i-test.false) c.loop-i.invariant.1

@@ -28,8 +28,7 @@ pub returns-then-not-sizes_ok : goal.returns-then-not-sizes_ok
 returns-then-not-sizes_ok c =
     let small : c.args.budget < budget_limit = omega arith in
     let full : length c.args.g.warps ≡ warps_limit = search (rules, mapped) in
-    let few : c.args.g.count ≤ warps_limit = c.if-n-gt-WARPS.false in
-    (
+    let few : c.args.g.count ≤ warps_limit = c.if-n-gt-WARPS.false in (
       small,
       rw c.refused-then-not-sizes_ok.ensures (kept_same _),
       rw c.refused-then-not-sizes_ok.ensures (held_size _ _ _ _ _ few full _ c.fixeds.ensures (sym c.sizes_ok.ensures ∙ c.if-not-sizes_ok.true)),
@@ -39,8 +38,7 @@ pub returns-then-not-shallow : goal.returns-then-not-shallow
 returns-then-not-shallow c =
     let small : c.args.budget < budget_limit = omega arith in
     let full : length c.args.g.warps ≡ warps_limit = search (rules, mapped) in
-    let few : c.args.g.count ≤ warps_limit = c.if-n-gt-WARPS.false in
-    (
+    let few : c.args.g.count ≤ warps_limit = c.if-n-gt-WARPS.false in (
       small,
       rw c.refused-then-not-shallow.ensures (kept_same _),
       rw c.refused-then-not-shallow.ensures
@@ -80,8 +78,7 @@ returns c =
     let small : c.args.budget < budget_limit = omega arith in
     let full : length c.args.g.warps ≡ warps_limit = search (rules, mapped) in
     let few : c.args.g.count ≤ warps_limit = c.if-n-gt-WARPS.false in
-    let shallow : all_below c.args.g.count (shallow_at c.args.g.warps) ≡ true = sym c.shallow.ensures ∙ c.if-not-shallow.false in
-    (
+    let shallow : all_below c.args.g.count (shallow_at c.args.g.warps) ≡ true = sym c.shallow.ensures ∙ c.if-not-shallow.false in (
       small,
       held_kept _ _ _ _ _ few full _ c.fixeds.ensures _ _ _ c.apart.ensures shallow _ c.wide-turn.ensures _ _ _ _ _ _ _ c.run_group-end.ensures _ c.together-us.ensures,
       rw c.answer_of.ensures

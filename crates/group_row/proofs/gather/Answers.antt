@@ -5,7 +5,6 @@ use native.Mathlib.Nat.{le_antisymm}
 use native.Mathlib.Omega.{arith}
 use lib.ListN.{length, get_or, set}
 use Rattle.warp.specs.declared.Warp.{Warp}
-use Rattle.group.specs.GroupRefuse.{warps_limit}
 use Rattle.group_machine.specs.Held.{no_warp}
 use Rattle.group_machine.specs.declared.Group.{Group}
 use Rattle.group_row.specs.Row.{room_of, held_of, overlaid}

@@ -1,7 +1,6 @@
 use mathlib.Core.Path.{◌≡◌}
 use Prim.Native.Nat.{◌≤◌, ◌-◌}
-use lib.ListN.{length}
-use Rattle.group_row.specs.Row.{room_of, overlaid}
+use Rattle.group_row.specs.Row.{overlaid}
 use Rattle.group_row.proofs.scatter.Given as goal
 
 abbrev pub invariant-loop-i : goal.invariant-loop-i

@@ -14,10 +14,8 @@ use Rattle.group_state.proofs.get_all.Goals as goal
 sized : (i : ℕ) → 1 + i * 241 + 241 - (1 + i * 241) ≡ 241
 sized i = omega arith
 
-
 part_long : (i n : ℕ) (s : List ℕ) → i < n → length s ≡ 1 + n * 241 → length (take 241 (drop (1 + i * 241) s)) ≡ 241
 part_long i n s h l = length-take-le 241 (drop (1 + i * 241) s) (let d = length-drop (1 + i * 241) s in omega (arith, d))
-
 
 pub loop-i-init : goal.loop-i-init
 loop-i-init c = (omega arith, got_none _ _ c.requires.2)

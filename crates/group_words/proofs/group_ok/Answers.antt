@@ -12,7 +12,7 @@ pub goes_on-going-requires : goal.goes_on-going-requires
 goes_on-going-requires c = c.requires.few
 
 pub returns : goal.returns
-returns c v d = 
+returns c v d =
     let a = c.args in
     let gs = a.gs.now in
     let xs = a.xs.now in

@@ -8,7 +8,5 @@ use Rattle.group_words.proofs.placed.Given as goal
 abbrev pub invariant-loop-i : goal.invariant-loop-i
 invariant-loop-i l = (l.i ≤ l.n) × (all_below l.i (place_ok l.n l.gs) ≡ true)
 
-
 abbrev pub decreases-loop-i : goal.decreases-loop-i
 decreases-loop-i l = l.n - l.i
-

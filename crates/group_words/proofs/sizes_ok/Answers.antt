@@ -1,4 +1,4 @@
-use Prim.Native.Nat.{ℕ, ◌+◌, ◌-◌, ◌*◌, ◌<◌}
+use Prim.Native.Nat.{ℕ, ◌+◌, ◌-◌, ◌*◌}
 use mathlib.Core.Path.{◌≡◌, sym, ◌∙◌, subst}
 use mathlib.Core.Bool.{true}
 use native.Mathlib.Nat.{le_antisymm}
@@ -32,19 +32,19 @@ pub bounds-gs-i : goal.bounds-gs-i
 bounds-gs-i c = omega (arith, c.loop-i-test.true, c.requires.1)
 
 pub returns-then-not-runs_ok : goal.returns-then-not-runs_ok
-returns-then-not-runs_ok c = 
+returns-then-not-runs_ok c =
     let a = c.args in
     let own : c.runs_ok.result ≡ own_ok a.n a.gs.now a.kernel.now a.vector.now (contents a.bytes.now a.local.now) c.loop-i.i = rw (c.fixed_in-f.ensures, sized c.loop-i.i) at c.runs_ok.ensures in
     sizes_own a.n a.gs.now a.kernel.now a.vector.now (contents a.bytes.now a.local.now) c.loop-i.i c.loop-i-test.true (sym own ∙ c.if-not-runs_ok.true)
 
 pub loop-i-preserved : goal.loop-i-preserved
-loop-i-preserved c = 
+loop-i-preserved c =
     let a = c.args in
     let own : c.runs_ok.result ≡ own_ok a.n a.gs.now a.kernel.now a.vector.now (contents a.bytes.now a.local.now) c.loop-i.i = rw (c.fixed_in-f.ensures, sized c.loop-i.i) at c.runs_ok.ensures in
     (omega arith, below_more (own_ok a.n a.gs.now a.kernel.now a.vector.now (contents a.bytes.now a.local.now)) c.loop-i.i c.loop-i.invariant.1 (sym own ∙ c.if-not-runs_ok.false))
 
 pub returns : goal.returns
-returns c = 
+returns c =
     let a = c.args in
     let p = own_ok a.n a.gs.now a.kernel.now a.vector.now (contents a.bytes.now a.local.now) in
     sizes_all a.n a.gs.now a.kernel.now a.vector.now (contents a.bytes.now a.local.now) c.requires.0 c.requires.1 c.if-vector-n.false

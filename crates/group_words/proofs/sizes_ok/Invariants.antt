@@ -9,7 +9,5 @@ use Rattle.group_words.proofs.sizes_ok.Given as goal
 abbrev pub invariant-loop-i : goal.invariant-loop-i
 invariant-loop-i l = (l.i ≤ l.n) × (all_below l.i (own_ok l.n l.gs l.kernel l.vector (contents l.bytes l.local)) ≡ true)
 
-
 abbrev pub decreases-loop-i : goal.decreases-loop-i
 decreases-loop-i l = l.n - l.i
-

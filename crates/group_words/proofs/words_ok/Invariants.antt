@@ -8,7 +8,5 @@ use Rattle.group_words.proofs.words_ok.Given as goal
 abbrev pub invariant-loop-i : goal.invariant-loop-i
 invariant-loop-i l = (l.i ≤ l.n) × (all_below l.i (λ j. warp_ok_at j (row l.gs l.hs l.xs l.ss)) ≡ true)
 
-
 abbrev pub decreases-loop-i : goal.decreases-loop-i
 decreases-loop-i l = l.n - l.i
-

@@ -8,6 +8,6 @@ use Rattle.isa.proofs.Numbers.{read_plain}
 use Rattle.instruction.proofs.decode.Goals as goal
 
 pub returns : goal.returns
-returns c = 
+returns c =
     let w = c.args.w in
     c.instruction.ensures ∙ ap (wide_of _) c.plain.ensures ∙ read_plain w _ (omega arith) (decode_of w) c.kind.ensures (fits_low (decode_of w) (decoded w))

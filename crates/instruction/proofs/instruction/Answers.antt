@@ -162,7 +162,7 @@ returns-in-9 c = c.csr.ensures ∙ sym (csr_is c.args.kind c.args.w c.in-9.is)
 
 pub returns-in_default : goal.returns-in_default
 unfolding row_of
-returns-in_default c = 
+returns-in_default c =
     let w = c.args.w in
     c.lane_word.ensures
     ∙ rw (lt-leb _ _ c.if-kind-ge-VECTOR.false)

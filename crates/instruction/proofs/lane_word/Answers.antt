@@ -58,7 +58,7 @@ pub returns-in-52 : goal.returns-in-52
 returns-in-52 c = rw (c.in-52.is, c.vd-in-52.ensures.0, c.vs2-in-52.ensures.0, c.source-in-52.ensures)
 
 pub returns-in_default : goal.returns-in_default
-returns-in_default c = 
+returns-in_default c =
     let w = c.args.w in
     c.register_word.ensures
     ∙ ap (on_fields (numbers_in w)) (past (on (fields_of w)) Refused _ lane_groups (of_registers ++ of_immediates) c.in_default.in_default-own.rest)

@@ -15,7 +15,6 @@ use Rattle.instruction.proofs.over_mask.Goals as goal
 abbrev others : List ℕ
 others = 0 ∷ 1 ∷ 2 ∷ 3 ∷ 4 ∷ 5 ∷ 6 ∷ 7 ∷ 8 ∷ 9 ∷ 10 ∷ 11 ∷ 12 ∷ 14 ∷ 16 ∷ 17 ∷ 19 ∷ 20 ∷ 21 ∷ 22 ∷ 23 ∷ 24 ∷ 25 ∷ 26 ∷ 27 ∷ []
 
-
 no_mask : (i : Instr) → OneOf others (tag_of the_type i) → false ≡ over_mask i
 no_mask I.Refused h = refl
 no_mask (I.Lui r n) h = refl
@@ -45,7 +44,6 @@ no_mask (I.VLoad s o r a n) h = refl
 no_mask (I.VStore s o a b n) h = refl
 no_mask (I.RegExt n) h = refl
 no_mask (I.RegExtI n) h = refl
-
 
 pub returns-in-Vector : goal.returns-in-Vector
 returns-in-Vector c = rw (c.in-Vector.is, c.is_v0.ensures, c.is_compare.ensures)

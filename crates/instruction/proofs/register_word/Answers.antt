@@ -63,6 +63,6 @@ pub returns-in-33 : goal.returns-in-33
 returns-in-33 c = c.of_registers-in-33.ensures ∙ simp c.in-33.is
 
 pub returns-in_default : goal.returns-in_default
-returns-in_default c = 
+returns-in_default c =
     let w = c.args.w in
     c.immediate_word.ensures ∙ ap (on_fields (numbers_in w)) (past (on (fields_of w)) Refused _ of_registers of_immediates c.in_default.in_default-own.rest)

@@ -10,11 +10,11 @@ pub crossing-requires : goal.crossing-requires
 crossing-requires c = let p = c.requires in (p.1, p.2, rw c.in-Private.is at p.3, p.4, p.5)
 
 pub returns-in-Plain : goal.returns-in-Plain
-returns-in-Plain c = 
+returns-in-Plain c =
     let g = c.args in
     rw c.in-Plain.is (plain_in_word g.n (bit g.mask) g.w g.off (lane_of g.v.now g.r))
 
 pub returns-in-Private : goal.returns-in-Private
-returns-in-Private c = 
+returns-in-Private c =
     let g = c.args in
     rw c.in-Private.is (none_fails (λ l. in_word spaces.Private g.w (lane_of g.v.now g.r l) g.off) g.n g.mask c.crossing.result c.requires.0 c.crossing.ensures)

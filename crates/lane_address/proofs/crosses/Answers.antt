@@ -10,6 +10,5 @@ over : (n w : ℕ) (t : Bool) → w ≤ 4 → leb (n + w) 4 ≡ t → ltb (4 - w
 over n w true h e = le-ltb (4 - w) n (omega (arith, leb-true (n + w) 4 e))
 over n w false h e = lt-ltb (4 - w) n (omega (arith, leb-false (n + w) 4 e))
 
-
 pub returns : goal.returns
 returns c = over (c.args.u % 4) c.args.w _ c.requires refl

@@ -12,11 +12,8 @@ use Rattle.lane_address.proofs.crossing.Given as goal
 abbrev pub crosses_at : List ℕ → VReg → ℕ → ℕ → Lane → Bool
 crosses_at v r off w l = not (in_word spaces.Private w (lane_of v r l) off)
 
-
 abbrev pub invariant-loop-l : goal.invariant-loop-l
 invariant-loop-l l = (l.l ≤ l.n) × (l.out ≡ mask_of l.l (crosses_at l.v l.r l.off l.w))
 
-
 abbrev pub decreases-loop-l : goal.decreases-loop-l
 decreases-loop-l l = l.n - l.l
-

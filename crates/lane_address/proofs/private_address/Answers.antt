@@ -11,9 +11,8 @@ wraps m a b c d =
     ∙ mod-add-mod (a + (b + c)) m d
     ∙ ap (λ (n : ℕ). (n + d) % m) (sym (add_assoc a b c))
 
-
 pub returns : goal.returns
-returns c = 
+returns c =
     let g = c.args in
     let low = g.u % 4 in
     let last = low + 4 * g.l.0 in

@@ -5,7 +5,7 @@ use Rattle.lane_clash.proofs.Laws.{pairs_agree, apart_agree}
 use Rattle.lane_clash.proofs.all_agree.Goals as goal
 
 pub returns-then-apart : goal.returns-then-apart
-returns-then-apart c = 
+returns-then-apart c =
     let a = c.args in
     apart_agree a.k a.mask a.n a.o.now a.x.now (subst (λ (v : ℕ). NoneMeet v a.n a.o.now) c.width-w.ensures.0 (c.apart.ensures c.if-apart.true))
 
@@ -13,6 +13,6 @@ pub pairs_agree-requires : goal.pairs_agree-requires
 pairs_agree-requires c = (c.width-w.ensures.2, c.requires.0, c.requires.1, λ l h t. rw c.width-w.ensures.0 (c.requires.2 l h t))
 
 pub returns : goal.returns
-returns c = 
+returns c =
     let a = c.args in
     c.pairs_agree.ensures ∙ ap (λ (v : ℕ). pairs_from v a.mask a.n a.o.now a.x.now) c.width-w.ensures.0 ∙ pairs_agree a.k a.mask a.n a.o.now a.x.now

@@ -1,6 +1,6 @@
 use mathlib.Core.Path.{sym, ap, subst, ◌∙◌}
 use mathlib.Core.Bool.{not}
-use Prim.Native.Nat.{ℕ, ◌<◌, ◌-◌, ◌^◌}
+use Prim.Native.Nat.{ℕ, ◌<◌, ◌^◌}
 use native.Mathlib.Nat.{le_antisymm}
 use native.Mathlib.Omega.{arith}
 use Rattle.lanes.specs.Lanes.{mask_of}
@@ -20,11 +20,11 @@ pub with-out-requires : goal.with-out-requires
 with-out-requires c = (omega arith, subst (λ (m : ℕ). m < 2 ^ c.loop-h.h) (sym c.loop-h.invariant.1) (mask_lt _ c.loop-h.h))
 
 pub loop-h-preserved : goal.loop-h-preserved
-loop-h-preserved c = 
+loop-h-preserved c =
     let g = c.args in
     (omega arith, mask_turn (differs g.w g.o.now g.x.now g.l) c.loop-h.h c.loop-h.out c.with-out.result (not c.agree.result) (ap not c.agree.ensures) c.with-out.ensures c.loop-h.invariant.1)
 
 pub returns : goal.returns
-returns c = 
+returns c =
     let g = c.args in
     c.loop-h.invariant.1 ∙ ap (λ (n : ℕ). mask_of n (differs g.w g.o.now g.x.now g.l)) (le_antisymm c.loop-h.invariant.0 c.loop-h-test.false)

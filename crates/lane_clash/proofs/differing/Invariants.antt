@@ -11,11 +11,8 @@ use Rattle.lane_clash.proofs.differing.Given as goal
 abbrev pub differs : ℕ → List ℕ → List ℕ → ℕ → Lane → Bool
 differs w o x l h = not (lane_with w o x (lane l) h)
 
-
 abbrev pub invariant-loop-h : goal.invariant-loop-h
 invariant-loop-h l = (l.h ≤ l.n) × (l.out ≡ mask_of l.h (differs l.w l.o l.x l.l))
 
-
 abbrev pub decreases-loop-h : goal.decreases-loop-h
 decreases-loop-h l = l.n - l.h
-

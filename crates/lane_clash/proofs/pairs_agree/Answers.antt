@@ -1,9 +1,8 @@
 use mathlib.Core.Path.{◌≡◌, sym, subst, ◌∙◌}
 use mathlib.Core.Bool.{true, true≢false}
-use Prim.Native.Nat.{ℕ, ◌-◌}
+use Prim.Native.Nat.{ℕ}
 use native.Mathlib.Nat.{le_antisymm}
 use native.Mathlib.Omega.{arith}
-use borrow.Author.Tests.{not-true, not-false}
 use Rattle.lanes.specs.Mask.{lane, bit}
 use Rattle.lanes.specs.Lanes.{all_below}
 use Rattle.lanes.proofs.Laws.{below_none, below_more, below_not, ok_when}
@@ -15,27 +14,27 @@ pub loop-l-init : goal.loop-l-init
 loop-l-init c = (omega arith, below_none _)
 
 pub lane_agrees-requires : goal.lane_agrees-requires
-lane_agrees-requires c = 
+lane_agrees-requires c =
     let p = c.requires in
     (p.0, omega arith, p.1, p.2, p.3 (lane c.loop-l.l) (omega arith) (sym c.active.ensures ∙ c.if-active.true))
 
 pub returns-then-not-lane_agrees : goal.returns-then-not-lane_agrees
-returns-then-not-lane_agrees c = 
+returns-then-not-lane_agrees c =
     let g = c.args in
     sym (below_not g.n (of_lane g.w g.mask g.n g.o.now g.x.now) c.loop-l.l (omega arith) (rw (sym c.active.ensures ∙ c.if-active.true) (sym c.lane_agrees.ensures ∙ c.if-not-lane_agrees.true)))
 
 pub loop-l-preserved : goal.loop-l-preserved
-loop-l-preserved c = 
+loop-l-preserved c =
     let g = c.args in (
       omega arith,
       below_more (of_lane g.w g.mask g.n g.o.now g.x.now) c.loop-l.l c.loop-l.invariant.1
           (elim c.if-active.branch [
-            then-active+else-not-lane_agrees w ↦ ok_when (bit g.mask (lane c.loop-l.l)) _ (λ t. sym w.lane_agrees.ensures ∙ w.if-not-lane_agrees.false)
-          | else-active w ↦ ok_when (bit g.mask (lane c.loop-l.l)) _ (λ t. absurd (true≢false (sym t ∙ sym c.active.ensures ∙ w.if-active.false)))
+            | then-active+else-not-lane_agrees w ↦ ok_when (bit g.mask (lane c.loop-l.l)) _ (λ t. sym w.lane_agrees.ensures ∙ w.if-not-lane_agrees.false)
+            | else-active w ↦ ok_when (bit g.mask (lane c.loop-l.l)) _ (λ t. absurd (true≢false (sym t ∙ sym c.active.ensures ∙ w.if-active.false)))
           ]),
     )
 
 pub returns : goal.returns
-returns c = 
+returns c =
     let g = c.args in
     sym (subst (λ (m : ℕ). all_below m (of_lane g.w g.mask g.n g.o.now g.x.now) ≡ true) (le_antisymm c.loop-l.invariant.0 c.loop-l-test.false) c.loop-l.invariant.1)

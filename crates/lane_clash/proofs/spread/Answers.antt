@@ -10,7 +10,7 @@ pub loop-l-init : goal.loop-l-init
 loop-l-init c = (omega arith, λ h. absurd (omega arith), λ t i h. absurd (omega arith))
 
 pub loop-l-preserved : goal.loop-l-preserved
-loop-l-preserved c = 
+loop-l-preserved c =
     let g = c.args in
     let l = c.loop-l.l in
     let e : l ≡ l + 1 - 1 = omega arith in (

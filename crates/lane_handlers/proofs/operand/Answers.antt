@@ -22,7 +22,6 @@ immediate_operand : (f : ℕ → ℕ → ℕ) (b : Bool) (n i : ℕ) (m : State)
 immediate_operand f true n i m = refl
 immediate_operand f false n i m = refl
 
-
 pub funct3-funct3-requires : goal.funct3-funct3-requires
 unfolding source_in warp_of
 funct3-funct3-requires c = search rules

@@ -1,4 +1,4 @@
-use Prim.Native.Nat.{ℕ, ◌%◌, ◌^◌, ◌<◌, ◌≤◌}
+use Prim.Native.Nat.{ℕ, ◌%◌}
 use mathlib.Core.List.{List}
 use mathlib.Core.Bool.{Bool}
 use mathlib.Core.Path.{◌≡◌, ◌∙◌, refl, sym, ap}
@@ -15,10 +15,8 @@ use Rattle.isa.specs.Kinds.{op_limit, lane_op_word, source_in}
 use Rattle.isa.specs.Number.{op_at}
 use Rattle.lanes.specs.declared.Lane.{Lane}
 use Rattle.lanes.specs.declared.Operand.{Operand}
-use Rattle.isa.specs.Bounds.{vector_registers}
-use Rattle.lanes.specs.Lanes.{file_words, lanes_max, op_lane, written_lanes, write_lanes}
+use Rattle.lanes.specs.Lanes.{op_lane, written_lanes, write_lanes}
 use Rattle.lanes.specs.Mask.{bit}
-use Rattle.lanes.specs.Rows.{OperandOk}
 use Rattle.lanes.proofs.Laws.{write_length}
 use Rattle.layout.specs.Words.{mask_in, fixed_in, warp_of}
 use Rattle.definition.specs.Exec.{effect_of}
@@ -43,13 +41,12 @@ told : (n : ℕ) (on : Lane → Bool) (d : VReg) (o o' : Op) (v : List ℕ) (a a
     → write_lanes n on d (op_lane o v a b) v ≡ write_lanes n on d (op_lane o' v a' b') v
 told n on d o o' v a a' b b' r s t = rw (r, s, t)
 
-
 pub returns-then-over_mask : goal.returns-then-over_mask
 unfolding warp_of refusals_of
 returns-then-over_mask c =
     let a = c.args in
     λ r d n. refused (word a.kind a.w) 6 (lists a.g.now a.h.now a.x.now r a.v.now d) (λ z. omega arith) c.requires.long n
-        (mask_refuses _ (tested a.kind a.w _ _ c.op_at-op.ensures c.over_mask.ensures ∙ c.if-over_mask.true))
+    (mask_refuses _ (tested a.kind a.w _ _ c.op_at-op.ensures c.over_mask.ensures ∙ c.if-over_mask.true))
 
 pub op_lanes-requires : goal.op_lanes-requires
 op_lanes-requires c =
@@ -68,10 +65,10 @@ shape_of-v c =
     let a = c.args in
     let file : Operand → List ℕ = λ b. write_lanes c.threads-n.result (bit c.written-mask.result) c.vd-d.result (op_lane c.op_at-op.result a.v.now c.vs2-a.result b) a.v.now in
     let given : c.match-b.v ≡ file c.operand-b.result =
-        elim c.match-b.branch [
-          in-Reg w ↦ w.v-is ∙ w.op_lanes.ensures ∙ ap file (sym w.in-Reg.is)
-        | in-Word w ↦ w.v-is ∙ w.op_lanes-in-Word.ensures ∙ ap file (sym w.in-Word.is)
-        ] in
+    elim c.match-b.branch [
+      | in-Reg w ↦ w.v-is ∙ w.op_lanes.ensures ∙ ap file (sym w.in-Reg.is)
+      | in-Word w ↦ w.v-is ∙ w.op_lanes-in-Word.ensures ∙ ap file (sym w.in-Word.is)
+    ] in
     ap length given ∙ write_length _ _ _ _ _
 
 pub returns : goal.returns
@@ -82,13 +79,13 @@ returns c =
     let on : Lane → Bool = written_lanes (is_masked f) a.v.now (mask_in a.h.now) in
     let file : Operand → List ℕ = λ b. write_lanes c.threads-n.result (bit c.written-mask.result) c.vd-d.result (op_lane c.op_at-op.result a.v.now c.vs2-a.result b) a.v.now in
     let given : c.match-b.v ≡ file c.operand-b.result =
-        elim c.match-b.branch [
-          in-Reg w ↦ w.v-is ∙ w.op_lanes.ensures ∙ ap file (sym w.in-Reg.is)
-        | in-Word w ↦ w.v-is ∙ w.op_lanes-in-Word.ensures ∙ ap file (sym w.in-Word.is)
-        ] in
+    elim c.match-b.branch [
+      | in-Reg w ↦ w.v-is ∙ w.op_lanes.ensures ∙ ap file (sym w.in-Reg.is)
+      | in-Word w ↦ w.v-is ∙ w.op_lanes-in-Word.ensures ∙ ap file (sym w.in-Word.is)
+    ] in
     λ r d n.
     file_written (word a.kind a.w) a.g.now a.h.now a.x.now r a.v.now d _ c.requires.long n c.next.ensures
-        (mask_passes _ (tested a.kind a.w _ _ c.op_at-op.ensures c.over_mask.ensures ∙ c.if-over_mask.false)) on _ _ _ refl
+    (mask_passes _ (tested a.kind a.w _ _ c.op_at-op.ensures c.over_mask.ensures ∙ c.if-over_mask.false)) on _ _ _ refl
     (given
     ∙ told _ _ _ _ _ a.v.now _ _ _ _ c.op_at-op.ensures c.vs2-a.ensures.0 (c.operand-b.ensures.1 a.g.now a.h.now r a.v.now d)
     ∙ by_mask on _ _ _ _ _ _ a.v.now c.threads-n.ensures c.written-mask.ensures c.vd-d.ensures.0

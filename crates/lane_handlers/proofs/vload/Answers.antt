@@ -6,12 +6,12 @@ use Rattle.lane_handlers.proofs.Laws.{lanes_fit, crossed, not_crossed, loaded_ro
 use Rattle.lane_handlers.proofs.vload.Goals as goal
 
 pub some_crosses-requires : goal.some_crosses-requires
-some_crosses-requires c = 
+some_crosses-requires c =
     let p = c.requires in
     (p.0, p.2, c.size.ensures.2)
 
 pub returns-then-some_crosses : goal.returns-then-some_crosses
-returns-then-some_crosses c = 
+returns-then-some_crosses c =
     let a = c.args in
     record {
       code = crossed a.space _ a.off a.mask a.w a.g.now a.v.now (contents a.d.now a.l.now) (c.size.ensures.0 ∙ ap size_of c.load_op-k.ensures) c.some_crosses.ensures (λ m. []) c.if-some_crosses.true;
@@ -19,13 +19,13 @@ returns-then-some_crosses c =
     }
 
 pub load_lanes-requires : goal.load_lanes-requires
-load_lanes-requires c = 
+load_lanes-requires c =
     let p = (c.before.before.before.before.before.before.before.before.before.before.before.before.before.before.before).requires in
     let fit = lanes_fit p.0 c.threads-n.ensures in
     (p.0.file, c.vd.ensures.1, fit.0, fit.1, p.1)
 
 pub returns : goal.returns
-returns c = 
+returns c =
     let a = c.args in
     loaded_row a.space a.off a.mask a.w a.g.now a.v.now (contents a.d.now a.l.now) c.lane_addresses-o.result c.threads-n.ensures c.lane_addresses-o.ensures c.inside_number.ensures c.load_op-k.ensures c.vd.ensures.0
     (not_crossed a.space _ a.off a.mask a.w a.g.now a.v.now (contents a.d.now a.l.now) c.size.ensures.0 c.some_crosses.ensures c.if-some_crosses.false) c.load_lanes.ensures

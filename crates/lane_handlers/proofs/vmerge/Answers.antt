@@ -17,20 +17,20 @@ use Rattle.lane_handlers.proofs.vmerge.Goals as goal
 
 pub returns-then-is_v0 : goal.returns-then-is_v0
 unfolding warp_of refusals_of
-returns-then-is_v0 c = 
+returns-then-is_v0 c =
     let a = c.args in
     λ r d n.
     refused (I.VMerge (vd_in a.w) (vs2_in a.w) (on_source (numbers_in a.w) (source_in (fields_of a.w)))) 6 (lists a.g.now a.h.now a.x.now r a.v.now d) (λ z. omega arith) c.requires.long n
     (mask_refuses (is_v0 (vd_in a.w)) (sym (c.is_v0.ensures ∙ ap is_v0 c.vd-d.ensures.0) ∙ c.if-is_v0.true))
 
 pub merge_lanes-requires : goal.merge_lanes-requires
-merge_lanes-requires c = 
+merge_lanes-requires c =
     let fit = lanes_fit c.requires.at c.threads.ensures in
     (c.requires.at.file, c.vd-d.ensures.1, c.vs2.ensures.1, c.operand-b.ensures.0, fit.0, fit.1)
 
 pub returns : goal.returns
 unfolding warp_of effect_of refusals_of
-returns c = 
+returns c =
     let a = c.args in
     λ r d n.
     file_written (I.VMerge (vd_in a.w) (vs2_in a.w) (on_source (numbers_in a.w) (source_in (fields_of a.w)))) a.g.now a.h.now a.x.now r a.v.now d _ c.requires.long n c.next.ensures

@@ -4,7 +4,7 @@ use Rattle.lane_handlers.proofs.Laws.{lanes_fit}
 use Rattle.lane_handlers.proofs.written.Goals as goal
 
 pub masked_lanes-requires : goal.masked_lanes-requires
-masked_lanes-requires c = 
+masked_lanes-requires c =
     let fit = lanes_fit c.requires c.threads.ensures in
     (c.requires.file, fit.0, fit.1)
 

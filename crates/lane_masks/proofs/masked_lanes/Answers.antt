@@ -10,7 +10,7 @@ use Rattle.lanes.proofs.MaskLaws.{mask_same, and_bits}
 use Rattle.lane_masks.proofs.masked_lanes.Goals as goal
 
 pub returns : goal.returns
-returns c = 
+returns c =
     let m = c.args.mask in
     let on = odd_lane c.row-z.result in
     ap (λ (o : ℕ). bit_and o m) c.odd_lanes.ensures

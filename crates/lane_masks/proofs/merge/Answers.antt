@@ -1,5 +1,5 @@
 use mathlib.Core.Path.{refl}
-use Prim.Native.Nat.{◌-◌, ◌<◌}
+use Prim.Native.Nat.{◌<◌}
 use native.Mathlib.Omega.{arith}
 use lib.ListN.{replicate}
 use Rattle.lanes.specs.Lanes.{lanes_max}
@@ -11,7 +11,7 @@ pub loop-l-init : goal.loop-l-init
 loop-l-init c = (omega arith, row_none _ (replicate lanes_max 0) refl)
 
 pub loop-l-preserved : goal.loop-l-preserved
-loop-l-preserved c = 
+loop-l-preserved c =
     let s = c.args in
     let below : c.loop-l.l < lanes_max = omega arith in (
       omega arith,

@@ -7,7 +7,5 @@ use Rattle.lane_masks.proofs.merge.Given as goal
 abbrev pub invariant-loop-l : goal.invariant-loop-l
 invariant-loop-l l = (l.l ≤ lanes_max) × RowOf l.l (merge_row l.z l.x l.y) l.a
 
-
 abbrev pub decreases-loop-l : goal.decreases-loop-l
 decreases-loop-l l = lanes_max - l.l
-

@@ -9,7 +9,6 @@ use Rattle.lane_masks.proofs.merge_lanes.Goals as goal
 three : (z z' x x' y y' : ℕ) → z ≡ z' → x ≡ x' → y ≡ y' → cond (is_odd z) y x ≡ cond (is_odd z') y' x'
 three z z' x x' y y' p q r = rw (p, q, r)
 
-
 pub returns : goal.returns
 returns c = c.put.ensures
     ∙ row_written c.args.mask c.args.n c.args.d (at c.merge-m.result) (merge_lane c.args.v.now c.args.a c.args.b) c.args.v.now c.requires.5 c.requires.4

@@ -7,7 +7,5 @@ use Rattle.lane_memory.proofs.fetch.Given as goal
 abbrev pub invariant-loop-l : goal.invariant-loop-l
 invariant-loop-l l = (l.l ≤ l.n) × RowOn (bit l.mask) l.l (λ i. load_of l.k (memory l.base l.d) (at l.o i)) l.x
 
-
 abbrev pub decreases-loop-l : goal.decreases-loop-l
 decreases-loop-l l = l.n - l.l
-

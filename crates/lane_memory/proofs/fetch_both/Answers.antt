@@ -1,6 +1,6 @@
 use mathlib.Core.Path.{sym, subst, ◌∙◌}
 use mathlib.Core.List.{List}
-use Prim.Native.Nat.{ℕ, ◌<◌, ◌-◌, ◌+◌}
+use Prim.Native.Nat.{ℕ, ◌<◌, ◌+◌}
 use native.Mathlib.Omega.{arith}
 use Rattle.lanes.specs.declared.Lane.{Lane}
 use Rattle.lanes.specs.Mask.{lane, bit}
@@ -17,22 +17,22 @@ pub loop-l-init : goal.loop-l-init
 loop-l-init c = (omega arith, (c.requires.0, λ k h. absurd (omega arith)))
 
 pub load_one-requires : goal.load_one-requires
-load_one-requires c = 
+load_one-requires c =
     let g = c.args in (
       c.requires.2,
       all_inside_at g.n (bit g.mask) (inside_one (memories g.base g.near (contents g.d.now g.local.now)) (size_of g.k)) (at g.o.now) c.requires.3 (lane c.loop-l.l) (omega arith) (sym c.active.ensures ∙ c.if-active.true),
     )
 
 pub loop-l-preserved : goal.loop-l-preserved
-loop-l-preserved c = 
+loop-l-preserved c =
     let g = c.args in
     let on = bit g.mask in
     let f : Lane → ℕ = λ i. load_from g.k (memories g.base g.near (contents g.d.now g.local.now)) (at g.o.now i) in
     let below : c.loop-l.l < lanes_max = omega (arith, c.requires) in (
       omega arith,
       elim c.if-active.branch [
-        then-active w ↦ subst (λ (z : List ℕ). RowOn on (c.loop-l.l + 1) f z) (sym w.x-is) (row_on_some on f c.loop-l.x c.loop-l.l w.load_one.result below w.load_one.ensures c.loop-l.invariant.1)
-      | else-active w ↦ subst (λ (z : List ℕ). RowOn on (c.loop-l.l + 1) f z) (sym w.x-is) (row_on_none on f c.loop-l.x c.loop-l.l (sym c.active.ensures ∙ w.if-active.false) c.loop-l.invariant.1)
+        | then-active w ↦ subst (λ (z : List ℕ). RowOn on (c.loop-l.l + 1) f z) (sym w.x-is) (row_on_some on f c.loop-l.x c.loop-l.l w.load_one.result below w.load_one.ensures c.loop-l.invariant.1)
+        | else-active w ↦ subst (λ (z : List ℕ). RowOn on (c.loop-l.l + 1) f z) (sym w.x-is) (row_on_none on f c.loop-l.x c.loop-l.l (sym c.active.ensures ∙ w.if-active.false) c.loop-l.invariant.1)
       ],
     )
 

@@ -9,7 +9,7 @@ pub found-requires : goal.found-requires
 found-requires c = (refl, c.requires.2, c.requires.3, c.requires.4)
 
 pub returns-then-found : goal.returns-then-found
-returns-then-found c = 
+returns-then-found c =
     let g = c.args in (
       sym c.if-found.true ∙ c.found.ensures.0,
       c.put.ensures

@@ -1,6 +1,6 @@
 use mathlib.Core.Path.{sym, ap, ap₂, subst, ◌∙◌}
 use mathlib.Core.Bool.{Bool, not, ◌||◌}
-use Prim.Native.Nat.{ℕ, ◌<◌, ◌-◌, ◌^◌}
+use Prim.Native.Nat.{ℕ, ◌<◌, ◌^◌}
 use native.Mathlib.Nat.{le_antisymm}
 use native.Mathlib.Omega.{arith}
 use Rattle.lanes.specs.Lanes.{mask_of}
@@ -18,7 +18,7 @@ pub with-out-requires : goal.with-out-requires
 with-out-requires c = (omega arith, subst (λ (m : ℕ). m < 2 ^ c.loop-l.l) (sym c.loop-l.invariant.1) (mask_lt _ c.loop-l.l))
 
 pub loop-l-preserved : goal.loop-l-preserved
-loop-l-preserved c = 
+loop-l-preserved c =
     let g = c.args in (
       omega arith,
       mask_turn (out_at (memories g.base g.near (contents g.d.now g.local.now)) g.w g.o.now) c.loop-l.l c.loop-l.out c.with-out.result
@@ -26,6 +26,6 @@ loop-l-preserved c =
     )
 
 pub returns : goal.returns
-returns c = 
+returns c =
     let g = c.args in
     c.loop-l.invariant.1 ∙ ap (λ (n : ℕ). mask_of n (out_at (memories g.base g.near (contents g.d.now g.local.now)) g.w g.o.now)) (le_antisymm c.loop-l.invariant.0 c.loop-l-test.false)

@@ -11,11 +11,8 @@ use Rattle.lane_memory.proofs.outside_both.Given as goal
 abbrev pub out_at : Memories → ℕ → List ℕ → Lane → Bool
 out_at m w o l = not (inside_one m w (at o l))
 
-
 abbrev pub invariant-loop-l : goal.invariant-loop-l
 invariant-loop-l l = (l.l ≤ l.n) × (l.out ≡ mask_of l.l (out_at (memories l.base l.near (contents l.d l.local)) l.w l.o))
 
-
 abbrev pub decreases-loop-l : goal.decreases-loop-l
 decreases-loop-l l = l.n - l.l
-

@@ -49,15 +49,15 @@ loop-l-preserved c =
       λ near e.
           let step : Lane → Contents → Contents = λ l u. store_to g.k (at g.o.now l) (at g.x.now l) (memories g.base near u) in
           elim c.if-active.branch [
-            then-active w ↦
-              let active = sym c.active.ensures ∙ w.if-active.true in
-              each_on on step (contents g.d.now e) c.loop-l.l (contents c.loop-l.d e) (contents c.if-active.d e) active
-                  (ap (λ (d : List ℕ). contents d e) (w.d-is ∙ w.put_at.ensures)
-                  ∙ sym (store_data (memories g.base near (contents c.loop-l.d e)) (at g.o.now l) g.k (at g.x.now l)
-                  (inside_now c.loop-l.l g.mask g.k g.o.now g.x.now g.base g.d.now c.loop-l.d c.loop-l.invariant.1 g.n c.requires.1 below active)))
-                  (c.loop-l.invariant.1 near e)
-          | else-active w ↦
-              each_off on step (contents g.d.now e) c.loop-l.l (contents c.if-active.d e) (sym c.active.ensures ∙ w.if-active.false) (ap (λ (d : List ℕ). contents d e) w.d-is ∙ c.loop-l.invariant.1 near e)
+            | then-active w ↦
+                let active = sym c.active.ensures ∙ w.if-active.true in
+                each_on on step (contents g.d.now e) c.loop-l.l (contents c.loop-l.d e) (contents c.if-active.d e) active
+                (ap (λ (d : List ℕ). contents d e) (w.d-is ∙ w.put_at.ensures)
+                ∙ sym (store_data (memories g.base near (contents c.loop-l.d e)) (at g.o.now l) g.k (at g.x.now l)
+                (inside_now c.loop-l.l g.mask g.k g.o.now g.x.now g.base g.d.now c.loop-l.d c.loop-l.invariant.1 g.n c.requires.1 below active)))
+                (c.loop-l.invariant.1 near e)
+            | else-active w ↦
+                each_off on step (contents g.d.now e) c.loop-l.l (contents c.if-active.d e) (sym c.active.ensures ∙ w.if-active.false) (ap (λ (d : List ℕ). contents d e) w.d-is ∙ c.loop-l.invariant.1 near e)
           ],
     )
 

@@ -10,7 +10,5 @@ use Rattle.lane_memory.proofs.store.Given as goal
 abbrev pub invariant-loop-l : goal.invariant-loop-l
 invariant-loop-l l = (l.l ≤ l.n) × ((near : ℕ) (e : List ℕ) → contents l.d e ≡ store_lanes l.l (bit l.mask) l.k (at l.o) (at l.x) (memories l.base near (contents l.initial.d e)))
 
-
 abbrev pub decreases-loop-l : goal.decreases-loop-l
 decreases-loop-l l = l.n - l.l
-

@@ -9,7 +9,5 @@ use Rattle.lane_memory.proofs.store_both.Given as goal
 abbrev pub invariant-loop-l : goal.invariant-loop-l
 invariant-loop-l l = (l.l ≤ l.n) × (contents l.d l.local ≡ store_lanes l.l (bit l.mask) l.k (at l.o) (at l.x) (memories l.base l.near (contents l.initial.d l.initial.local)))
 
-
 abbrev pub decreases-loop-l : goal.decreases-loop-l
 decreases-loop-l l = l.n - l.l
-

@@ -14,7 +14,7 @@ use Rattle.memory.proofs.Laws.{store_only}
 use Rattle.lane_memory.proofs.store_lanes.Goals as goal
 
 pub returns : goal.returns
-returns c = 
+returns c =
     let g = c.args in
     let m = memories g.base g.near (contents g.d.now g.local.now) in
     let on = bit g.mask in

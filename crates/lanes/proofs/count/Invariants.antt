@@ -6,7 +6,5 @@ use Rattle.lanes.proofs.count.Given as goal
 abbrev pub invariant-loop-l : goal.invariant-loop-l
 invariant-loop-l l = (l.l ≤ lanes_max) × RowOf l.l (λ k. k.0) l.a
 
-
 abbrev pub decreases-loop-l : goal.decreases-loop-l
 decreases-loop-l l = lanes_max - l.l
-

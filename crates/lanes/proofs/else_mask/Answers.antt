@@ -11,7 +11,7 @@ use Rattle.lanes.proofs.MaskLaws.{mask_same, and_bits}
 use Rattle.lanes.proofs.else_mask.Goals as goal
 
 pub returns : goal.returns
-returns c = 
+returns c =
     let m = c.args.mask in
     let on = holds_lane c.args.c c.row-x.result c.row-y.result in
     ap (λ (o : ℕ). bit_and o m) c.hold_op.ensures

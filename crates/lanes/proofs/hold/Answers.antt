@@ -1,5 +1,5 @@
 use mathlib.Core.Path.{sym, ap, subst, ◌∙◌}
-use Prim.Native.Nat.{ℕ, ◌-◌, ◌^◌, ◌<◌}
+use Prim.Native.Nat.{ℕ, ◌^◌, ◌<◌}
 use native.Mathlib.Omega.{arith}
 use native.Mathlib.Nat.{le_antisymm}
 use Rattle.lanes.specs.Lanes.{mask_of}
@@ -16,11 +16,11 @@ pub with-out-requires : goal.with-out-requires
 with-out-requires c = (omega arith, subst (λ (m : ℕ). m < 2 ^ c.loop-l.l) (sym c.loop-l.invariant.1) (mask_lt _ c.loop-l.l))
 
 pub loop-l-preserved : goal.loop-l-preserved
-loop-l-preserved c = 
+loop-l-preserved c =
     let s = c.args in
     (omega arith, mask_turn (holds_lane s.c s.a.now s.b.now) c.loop-l.l c.loop-l.out c.with-out.result c.holds.result c.holds.ensures c.with-out.ensures c.loop-l.invariant.1)
 
 pub returns : goal.returns
-returns c = 
+returns c =
     let s = c.args in
     c.loop-l.invariant.1 ∙ ap (λ (n : ℕ). mask_of n (holds_lane s.c s.a.now s.b.now)) (le_antisymm c.loop-l.invariant.0 c.loop-l-test.false)

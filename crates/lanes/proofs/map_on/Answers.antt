@@ -19,9 +19,9 @@ loop-l-preserved c =
     let l = c.loop-l.l in (
       omega arith,
       elim c.if-active.branch [
-        then-active w ↦ subst (RowWritten on s.d f s.v.now (l + 1)) (sym w.v-is)
+        | then-active w ↦ subst (RowWritten on s.d f s.v.now (l + 1)) (sym w.v-is)
             (written_on on s.d f s.v.now l c.loop-l.v w.slot-i.result w.apply.result (sym c.active.ensures ∙ w.if-active.true) w.slot-i.ensures w.apply.ensures c.loop-l.invariant.1)
-      | else-active w ↦ subst (RowWritten on s.d f s.v.now (l + 1)) (sym w.v-is)
+        | else-active w ↦ subst (RowWritten on s.d f s.v.now (l + 1)) (sym w.v-is)
             (written_off on s.d f s.v.now l c.loop-l.v (sym c.active.ensures ∙ w.if-active.false) c.loop-l.invariant.1)
       ],
     )

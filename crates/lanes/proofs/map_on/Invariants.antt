@@ -7,7 +7,5 @@ use Rattle.lanes.proofs.map_on.Given as goal
 abbrev pub invariant-loop-l : goal.invariant-loop-l
 invariant-loop-l l = (l.l ≤ l.n) × RowWritten (bit l.mask) l.d (map_lane l.op l.x l.y) l.initial.v l.l l.v
 
-
 abbrev pub decreases-loop-l : goal.decreases-loop-l
 decreases-loop-l l = l.n - l.l
-

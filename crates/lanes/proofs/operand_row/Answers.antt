@@ -4,7 +4,7 @@ use Rattle.lanes.proofs.RowLaws.{row_of}
 use Rattle.lanes.proofs.operand_row.Goals as goal
 
 pub row-requires : goal.row-requires
-row-requires c = 
+row-requires c =
     let p = c.requires in
     (p.0, subst OperandOk c.in-Reg.is p.1)
 

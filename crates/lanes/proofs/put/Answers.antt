@@ -1,4 +1,3 @@
-use Prim.Native.Nat.{◌-◌}
 use native.Mathlib.Omega.{arith}
 use borrow.Author.Rules.{rules}
 use Rattle.lanes.specs.Mask.{bit}
@@ -10,7 +9,7 @@ pub loop-l-init : goal.loop-l-init
 loop-l-init c = (omega arith, written_none _ _ _ _ (search rules))
 
 pub loop-l-preserved : goal.loop-l-preserved
-loop-l-preserved c = 
+loop-l-preserved c =
     let s = c.args in (
       omega arith,
       written_choice (bit s.mask) s.d (at s.a.now) s.v.now c.loop-l.l c.loop-l.v c.slot-i.result c.choose.result c.active.result c.active.ensures c.slot-i.ensures

@@ -9,7 +9,7 @@ use Rattle.lanes.proofs.RowLaws.{row_of, uniform_value, uniform_rows}
 use Rattle.lanes.proofs.uniform.Goals as goal
 
 pub returns : goal.returns
-returns c = 
+returns c =
     let n = c.args.n in
     let f = lane_of c.args.v.now c.args.a in
     let one = c.value-one.result in

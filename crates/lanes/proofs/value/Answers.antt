@@ -1,5 +1,5 @@
 use mathlib.Core.Path.{ap, ◌∙◌}
-use Prim.Native.Nat.{ℕ, ◌-◌}
+use Prim.Native.Nat.{ℕ}
 use native.Mathlib.Omega.{arith}
 use native.Mathlib.Nat.{le_antisymm}
 use Rattle.lanes.specs.Mask.{bit}
@@ -13,11 +13,11 @@ pub loop-l-init : goal.loop-l-init
 loop-l-init c = (omega arith, each_none _ _ _)
 
 pub loop-l-preserved : goal.loop-l-preserved
-loop-l-preserved c = 
+loop-l-preserved c =
     let s = c.args in
     (omega arith, value_turn (bit s.mask) (at s.a.now) c.loop-l.l c.loop-l.x c.choose-x.result c.active.result c.active.ensures c.choose-x.ensures c.loop-l.invariant.1)
 
 pub returns : goal.returns
-returns c = 
+returns c =
     let s = c.args in
     c.loop-l.invariant.1 ∙ ap (λ (n : ℕ). value_of n (bit s.mask) (at s.a.now)) (le_antisymm c.loop-l.invariant.0 c.loop-l-test.false)

@@ -8,7 +8,5 @@ use Rattle.lanes.proofs.value.Given as goal
 abbrev pub invariant-loop-l : goal.invariant-loop-l
 invariant-loop-l l = (l.l ≤ l.n) × (l.x ≡ value_of l.l (bit l.mask) (at l.a))
 
-
 abbrev pub decreases-loop-l : goal.decreases-loop-l
 decreases-loop-l l = l.n - l.l
-

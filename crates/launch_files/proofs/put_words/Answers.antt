@@ -1,5 +1,5 @@
 use mathlib.Core.Path.{◌≡◌, refl}
-use Prim.Native.Nat.{◌-◌, ◌/◌}
+use Prim.Native.Nat.{◌/◌}
 use native.Mathlib.Omega.{arith}
 use lib.ListN.{length, length-set}
 use Rattle.launch_files.specs.LaunchFiles.{kernel_words_of}
@@ -10,7 +10,7 @@ pub loop-i-init : goal.loop-i-init
 loop-i-init c = (omega arith, refl, refl)
 
 pub loop-i-preserved : goal.loop-i-preserved
-loop-i-preserved c = 
+loop-i-preserved c =
     let i = c.loop-i in
     (omega arith, simp length-set i.invariant.1, rw c.word_at.ensures (words_more c.args.kernel.now i.words i.i (omega arith) i.invariant.2))
 
@@ -19,7 +19,7 @@ shape_of-words c = c.loop-i.invariant.1
 
 pub returns : goal.returns
 unfolding kernel_words_of
-returns c = 
+returns c =
     let i = c.loop-i in
     let e : i.i ≡ length c.args.kernel.now / 4 = omega arith in
     rw (← e) i.invariant.2

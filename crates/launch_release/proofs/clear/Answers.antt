@@ -1,4 +1,4 @@
-use Prim.Native.Nat.{ℕ, ◌-◌}
+use Prim.Native.Nat.{ℕ}
 use mathlib.Core.Path.{◌≡◌, refl, ap, ◌∙◌}
 use mathlib.Core.List.{List, ◌++◌, append-nil}
 use native.Mathlib.Omega.{arith}
@@ -15,7 +15,7 @@ pub loop-i-smaller : goal.loop-i-smaller
 loop-i-smaller c = omega (arith, c.loop-i.invariant.1)
 
 pub loop-i-preserved : goal.loop-i-preserved
-loop-i-preserved c = 
+loop-i-preserved c =
     let i = c.loop-i.i in
     let v = c.loop-i.invariant in
     (omega (arith, v.1), simp length-set v.1, ap (λ (l : List ℕ). set l i 0) v.2 ∙ fill_more i 0 _ (omega (arith, v.1)))
@@ -24,7 +24,7 @@ pub shape_of-vector : goal.shape_of-vector
 shape_of-vector c = c.loop-i.invariant.1
 
 pub returns : goal.returns
-returns c = 
+returns c =
     let v = c.loop-i.invariant in
     let a = c.args.vector.now in
     let e : c.loop-i.i ≡ length a = omega (arith, v.1) in

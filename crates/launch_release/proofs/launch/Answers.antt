@@ -1,8 +1,4 @@
-use mathlib.Core.Path.{◌≡◌, sym, ◌∙◌}
-use mathlib.Core.Bool.{true}
-use borrow.Author.Tests.{not-false}
-use Rattle.memory.specs.Memories.{alone}
-use Rattle.definition.specs.Refuse.{runs_ok_of}
+use mathlib.Core.Path.{sym, ◌∙◌}
 use Rattle.definition.proofs.Sizes.{sizes}
 use Rattle.definition.proofs.Calls.{launch_size, launch_range, launch_done}
 use Rattle.launch_release.proofs.launch.Goals as goal

@@ -10,7 +10,7 @@ use borrow.Author.Rules.{rules}
 use Rattle.layout.proofs.get.Goals as goal
 
 pub returns : goal.returns
-returns c = 
+returns c =
     let a = c.args in
     let t : List ℕ = a.state.now in (
       c.copy-3.ensures ∙ copied a.h.now (drop moving_start t) moving_count (search rules),

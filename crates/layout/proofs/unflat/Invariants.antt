@@ -9,7 +9,5 @@ use Rattle.layout.proofs.unflat.Given as goal
 abbrev pub invariant-loop-k : goal.invariant-loop-k
 invariant-loop-k l = (l.k ≤ split_count) × (length l.q ≡ split_count) × (sets l.q l.k (splits_of (split_count - l.k) (drop (l.k * split_size) l.s)) ≡ splits_in l.s)
 
-
 abbrev pub decreases-loop-k : goal.decreases-loop-k
 decreases-loop-k l = split_count - l.k
-

@@ -8,6 +8,6 @@ overflow_cast-i c = omega (arith, c.requires.0)
 
 pub returns : goal.returns
 unfolding warp_line
-returns c = 
+returns c =
     let three = puts_then (puts_then c.put_number-one.ensures.0 c.put_word-two.ensures.0) c.put_word-three.ensures.0 in
     (puts_then (puts_then three c.put_number-four.ensures.0) c.put_end.ensures.0, omega arith)

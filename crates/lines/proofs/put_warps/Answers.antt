@@ -1,5 +1,5 @@
 use native.Mathlib.Omega.{arith}
-use Prim.Native.Nat.{ℕ, ◌-◌}
+use Prim.Native.Nat.{ℕ}
 use mathlib.Core.Path.{◌≡◌, refl, sym, ap, ◌∙◌}
 use native.Mathlib.Nat.{le_antisymm}
 use Rattle.text.proofs.Laws.{puts_none, puts_then, puts_as}
@@ -11,7 +11,7 @@ pub loop-i-init : goal.loop-i-init
 loop-i-init c = (omega arith, refl, puts_none _ _, omega arith)
 
 pub put_warp-end-requires : goal.put_warp-end-requires
-put_warp-end-requires c = 
+put_warp-end-requires c =
     let p = c.requires in
     let t = c.loop-i-test.true in
     (omega (arith, t, p.0), omega (arith, t, p.1), omega (arith, t, p.2, c.loop-i.invariant.1, c.loop-i.invariant.3))
@@ -23,7 +23,7 @@ pub loop-i-smaller : goal.loop-i-smaller
 loop-i-smaller c = omega (arith, c.loop-i-test.true)
 
 pub loop-i-preserved : goal.loop-i-preserved
-loop-i-preserved c = 
+loop-i-preserved c =
     let a = c.args in
     let put = c.put_warp-end.ensures in (
       omega (arith, c.loop-i-test.true),
@@ -36,7 +36,7 @@ pub shape_of-out : goal.shape_of-out
 shape_of-out c = c.loop-i.invariant.1
 
 pub returns : goal.returns
-returns c = 
+returns c =
     let a = c.args in
     let e : c.loop-i.i ≡ a.n = le_antisymm c.loop-i.invariant.0 c.loop-i-test.false in
     (puts_as (ap (λ (m : ℕ). warp_lines m a.state.now) (sym e)) c.loop-i.invariant.2, omega (arith, e, c.loop-i.invariant.3))

@@ -8,7 +8,5 @@ use Rattle.lines.proofs.put_warps.Given as goal
 abbrev pub invariant-loop-i : goal.invariant-loop-i
 invariant-loop-i l = (l.i ≤ l.n) × (length l.out ≡ length l.initial.out) × Puts l.initial.out l.at (warp_lines l.i l.state) l.out l.end × (l.end ≤ l.at + l.i * 88)
 
-
 abbrev pub decreases-loop-i : goal.decreases-loop-i
 decreases-loop-i l = l.n - l.i
-

@@ -3,7 +3,7 @@ use Rattle.prefix.proofs.Judged.{known, judged}
 use Rattle.prefix.proofs.takes.Goals as goal
 
 pub returns : goal.returns
-returns c = 
+returns c =
     let k = c.args.kind in
     let n = c.args.bits in
     judged k n c.args.word _ c.requires

@@ -13,7 +13,7 @@ pub returns-in-4 : goal.returns-in-4
 returns-in-4 c p b h = let w = c.args.w in vector_vx h (fields_of w) (small w) c.in-4.is
 
 pub returns-in-2 : goal.returns-in-2
-returns-in-2 c p b h = 
+returns-in-2 c p b h =
     let w = c.args.w in
     vector_mvv h (fields_of w) (small w) _ c.in-2.is (c.multiply_vv.ensures p _ b h)
 

@@ -7,7 +7,5 @@ use Rattle.saved.proofs.phases_ok.Given as goal
 abbrev pub invariant-loop-k : goal.invariant-loop-k
 invariant-loop-k l = (l.k ≤ split_count) × (phases_ok_of split_count l.s ≡ phases_ok_of l.k l.s)
 
-
 abbrev pub decreases-loop-k : goal.decreases-loop-k
 decreases-loop-k l = l.k
-

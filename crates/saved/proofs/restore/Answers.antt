@@ -1,6 +1,4 @@
 use mathlib.Core.Path.{◌≡◌, sym, ◌∙◌, ap, ap₂}
-use Prim.Native.Nat.{ℕ}
-use mathlib.Core.List.{List}
 use Rattle.warp.specs.Warp.{answered}
 use Rattle.layout.specs.Words.{sound_of, warp_in, sound_in}
 use Rattle.saved.proofs.Laws.{parts_warp}

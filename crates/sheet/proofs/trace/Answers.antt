@@ -1,7 +1,5 @@
-use Prim.Native.Nat.{◌-◌}
 use native.Mathlib.Omega.{arith}
 use mathlib.Core.Path.{refl, sym, ◌∙◌}
-use lib.ListN.{length}
 use lib.Seq.{length-sets}
 use Rattle.sheet.proofs.Tracing.{tracing_start, tracing_end, step_lengths, tracing_stop, tracing_on}
 use Rattle.sheet.proofs.trace.Goals as goal
@@ -25,9 +23,8 @@ pub loop-n-smaller : goal.loop-n-smaller
 loop-n-smaller c = omega (arith, c.loop-n-test.true)
 
 pub loop-n-preserved : goal.loop-n-preserved
-loop-n-preserved c = 
-    let inv = c.loop-n.invariant in
-    (
+loop-n-preserved c =
+    let inv = c.loop-n.invariant in (
       tracing_on _ _ _ _ _ _ inv.0 c.loop-n-test.true _ c.step-left.ensures (sym c.number.ensures ∙ c.if-number-ne-DONE.false) _ c.word_on-word.ensures _ c.put_line.ensures,
       rw (c.put_line.ensures, length-sets) inv.1,
     )

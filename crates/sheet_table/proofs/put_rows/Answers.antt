@@ -1,7 +1,5 @@
 use mathlib.Core.Path.{◌≡◌, refl}
-use Prim.Native.Nat.{◌-◌}
 use native.Mathlib.Omega.{arith}
-use lib.ListN.{length}
 use lib.Seq.{length-sets}
 use Rattle.text.proofs.Laws.{puts_none, puts_then, puts_as}
 use Rattle.sheet_lines.specs.Sheet.{steps_in}
@@ -17,7 +15,7 @@ pub put_row-end-requires : goal.put_row-end-requires
 put_row-end-requires c = (omega arith, omega arith)
 
 pub loop-i-preserved : goal.loop-i-preserved
-loop-i-preserved c = 
+loop-i-preserved c =
     let i = c.loop-i in
     (omega arith, rw c.put_row-end.ensures.0.text (simp length-sets i.invariant.1), puts_as (rows_more _ _) (puts_then i.invariant.2 c.put_row-end.ensures.0), omega arith)
 
@@ -25,7 +23,7 @@ pub shape_of-out : goal.shape_of-out
 shape_of-out c = c.loop-i.invariant.1
 
 pub returns : goal.returns
-returns c = 
+returns c =
     let i = c.loop-i in
     let e : i.i ≡ steps_in c.args.s.now = omega (arith, c.steps_in-n.ensures) in
     (rw (← e) i.invariant.2, omega arith)

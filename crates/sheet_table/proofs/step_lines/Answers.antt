@@ -13,6 +13,6 @@ put_step_lines-requires c = step_there _ _ _ _ (sym c.has_step.ensures ∙ c.if-
 
 pub returns : goal.returns
 unfolding step_lines_into
-returns c = 
+returns c =
     let there = sym c.has_step.ensures ∙ c.if-not-has_step.false in
     put_done _ there c.put_step_lines.ensures.0 c.put_step_lines.ensures.1 (step_there _ _ _ _ there).0

@@ -13,6 +13,6 @@ put_table-requires c = table_there _ _ (sym c.table_fits.ensures ∙ c.if-not-ta
 
 pub returns : goal.returns
 unfolding table_into
-returns c = 
+returns c =
     let there = sym c.table_fits.ensures ∙ c.if-not-table_fits.false in
     put_done _ there c.put_table.ensures.0 c.put_table.ensures.1 (table_there _ _ there).0

@@ -13,6 +13,6 @@ put_unwritten_line-requires c = leb-true _ _ (sym c.room_for.ensures ∙ c.if-no
 
 pub returns : goal.returns
 unfolding unwritten_line_into
-returns c = 
+returns c =
     let room = sym c.room_for.ensures ∙ c.if-not-room_for.false in
     put_done _ room c.put_unwritten_line.ensures.0 c.put_unwritten_line.ensures.1 (leb-true _ _ room)

@@ -9,7 +9,7 @@ pub returns-then-e-h : goal.returns-then-e-h
 returns-then-e-h c = λ g x. part_goes_all g c.args.h.now x c.args.s.now c.requires.0 c.requires.1 _ c.args.e c.args.p c.if-e-eq0.false c.if-e-h.true refl
 
 pub open-requires : goal.open-requires
-open-requires c = 
+open-requires c =
     let f = part_fits c.args.h.now c.args.e c.requires.2 c.requires.3 c.if-e-eq0.false c.if-e-h.false in
     (c.requires.0, c.requires.1, f.0, f.1)
 

@@ -1,4 +1,3 @@
-use Prim.Native.Nat.{◌-◌}
 use Rattle.text.proofs.+put_blanks.Given as goal
 
 abbrev pub decreases-put_blanks : goal.decreases-put_blanks

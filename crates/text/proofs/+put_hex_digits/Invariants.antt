@@ -1,4 +1,3 @@
-use Prim.Native.Nat.{◌-◌}
 use Rattle.text.proofs.+put_hex_digits.Given as goal
 
 abbrev pub decreases-put_hex_digits : goal.decreases-put_hex_digits

@@ -8,19 +8,19 @@ use Rattle.text.proofs.Laws.{puts_then, puts_as, right_few, right_more}
 use Rattle.text.proofs.+put_right.Goals as goal
 
 pub put_blanks-one-requires : goal.put_blanks-one-requires
-put_blanks-one-requires t c = 
+put_blanks-one-requires t c =
     let s = c.args in
     let blanks = length-replicate {A = ℕ} (s.width - 1) 32 in
     omega (arith, c.one_less-less.ensures, blanks, simp length-append at (ap length (right_few s.width s.n c.if-n-lt10.true)))
 
 pub put_byte-requires : goal.put_byte-requires
-put_byte-requires t c = 
+put_byte-requires t c =
     let s = c.args in
     rw c.put_blanks-one.ensures.text (simp length-sets
     (omega (arith, c.put_blanks-one.ensures.end, c.one_less-less.ensures, length-replicate {A = ℕ} c.one_less-less.result 32, length-replicate {A = ℕ} (s.width - 1) 32, simp length-append at (ap length (right_few s.width s.n c.if-n-lt10.true)))))
 
 pub returns-then-n-lt10 : goal.returns-then-n-lt10
-returns-then-n-lt10 t c = 
+returns-then-n-lt10 t c =
     let s = c.args in
     puts_as (right_few s.width s.n c.if-n-lt10.true ∙ rw (sym c.digit.ensures, sym c.one_less-less.ensures)) (puts_then c.put_blanks-one.ensures c.put_byte.ensures)
 

@@ -1,4 +1,3 @@
-use Prim.Native.Nat.{◌-◌}
 use Rattle.text.proofs.+put_right.Given as goal
 
 abbrev pub decreases-put_right : goal.decreases-put_right

@@ -1,8 +1,7 @@
 use mathlib.Core.Path.{◌≡◌, refl, ◌∙◌}
-use Prim.Native.Nat.{◌-◌}
 use native.Mathlib.Omega.{arith}
-use lib.ListN.{length, take}
-use lib.Seq.{sets, length-sets, take-length}
+use lib.ListN.{length}
+use lib.Seq.{length-sets, take-length}
 use Rattle.text.proofs.Laws.{text_more}
 use Rattle.text.proofs.put_text.Goals as goal
 
@@ -19,7 +18,7 @@ pub shape_of-out : goal.shape_of-out
 shape_of-out c = rw c.loop-i.invariant.1 (simp length-sets)
 
 pub returns : goal.returns
-returns c = 
+returns c =
     let s = c.args in
     let i = c.loop-i in
     let e : i.i ≡ length s.text.now = omega arith in

@@ -38,7 +38,7 @@ returns-in-20 c = c.fixed-in-20-2.ensures c.args.w ∙ rw (c.fixed-in-20.ensures
 
 pub returns-in_default : goal.returns-in_default
 unfolding row_of multiply_word source_in
-returns-in_default c = 
+returns-in_default c =
     let f = fields_of c.args.w in
     c.multiply_row.ensures c.args.w
     ∙ form_in f (funct6 f) (from_v f) (simp c.requires) (moves_m (from_v f)) c.in_default.in_default-own.rest

@@ -26,7 +26,7 @@ returns-in-16 c = c.fixed-in-16.ensures c.args.w ∙ rw (c.fixed.ensures c.args.
 
 pub returns-in_default : goal.returns-in_default
 unfolding row_of multiply_word source_in
-returns-in_default c = 
+returns-in_default c =
     let f = fields_of c.args.w in
     c.multiply_row.ensures c.args.w
     ∙ form_in f (funct6 f) (from_x f) (simp c.requires) (moves_m (from_x f)) c.in_default.in_default-own.rest

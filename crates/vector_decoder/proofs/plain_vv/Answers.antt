@@ -34,7 +34,7 @@ returns-in-31 c = simp c.in-31.is
 
 pub returns-in_default : goal.returns-in_default
 unfolding row_of plain_word source_in
-returns-in_default c = 
+returns-in_default c =
     let f = fields_of c.args.w in
     let e = c.in_default.in_default-own.rest in
     c.row.ensures c.args.w

@@ -22,7 +22,7 @@ returns-in-23 c = c.move_or_merge.ensures ∙ simp (c.in-23.is, c.requires)
 
 pub returns-in_default : goal.returns-in_default
 unfolding row_of plain_word source_in
-returns-in_default c = 
+returns-in_default c =
     let f = fields_of c.args.w in
     c.row.ensures c.args.w
     ∙ form_in f (funct6 f) (from_x f) (simp c.requires) (moves (from_x f)) c.in_default.in_default-own.rest

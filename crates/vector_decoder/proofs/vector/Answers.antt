@@ -51,6 +51,6 @@ returns-in-6 c = c.multiply_vx.ensures ∙ simp (c.requires ∙ c.in-6.is)
 
 pub returns-in_default : goal.returns-in_default
 unfolding row_of vector_word
-returns-in_default c = 
+returns-in_default c =
     let f = fields_of c.args.w in
     past (on f) Refused _ operands [] c.in_default.in_default-own.rest ∙ ap (λ (n : ℕ). word_at f n operands) (sym c.requires)

@@ -21,13 +21,11 @@ module _ (c : goal.Then-z-lt0) where
   up_held : to_z w32 (of_z w32 (to_z w32 (of_z w32 c.args.z) -ℤ negsuc 2147483647)) ≡ pos (as_word c.args.z - 2147483648)
   up_held = ap (λ (z : ℤ). to_z w32 (of_z w32 z)) up ∙ to_z_pos w32 (as_word c.args.z - 2147483648) (omega (arith, above))
 
-
 held_plain : (c : goal.Else-z-lt0) → (to_z w32 (of_z w32 c.before.args.z) ≡ pos (as_word c.before.args.z)) × (as_word c.before.args.z < 2 ^ 31)
 held_plain c =
     let h : to_z w32 (of_z w32 c.args.z) ≡ c.args.z = to_z-of_z w32 c.args.z c.ranges.z in
     let p = plain c.args.z c.ranges.z (ap (λ (z : ℤ). lt_z z (pos 0)) (sym h) ∙ c.if-z-lt0.false) in
     (h ∙ p.0, p.1)
-
 
 pub overflow_sub-result : goal.overflow_sub-result
 overflow_sub-result c = subst (λ (z : ℤ). SFits w32 z) (sym (up c)) (record { sfits = omega (arith, above c) })

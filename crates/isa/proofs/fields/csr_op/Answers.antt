@@ -26,7 +26,7 @@ returns-in-6 c = simp c.in-6.is
 
 pub returns-in_default : goal.returns-in_default
 unfolding csr_op_of
-returns-in_default c = 
+returns-in_default c =
     let n = c.in_default.in_default-own.rest in
     both_ways (ltb (fields_of c.args.w).funct3 4)
     (at_last _ (take 2 csr_ops) (3 ⇒ R.Rc) n.0.0)

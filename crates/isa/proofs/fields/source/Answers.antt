@@ -41,7 +41,7 @@ returns-in-3 c = c.immediate.ensures ∙ simp c.in-3.is
 
 pub returns-in_default : goal.returns-in_default
 unfolding source_in
-returns-in_default c = 
+returns-in_default c =
     let f = fields_of c.args.w in
     ap From.X c.xs1.ensures.0
     ∙ ap (on_source (numbers_in c.args.w)) (past (λ s. s) (from_x f) _ (0b000 ⇒ from_v f ∷ 0b010 ⇒ from_v f ∷ 0b011 ⇒ from_i f ∷ []) [] c.in_default.in_default-own.rest)
