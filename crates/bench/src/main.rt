@@ -1,7 +1,7 @@
 // The bench program: the three files of the folder that it is run in, and the printout to standard output.
 #![tactic(auto)]
 
-fn main() {
+fn main(rt: HostRuntime) {
     let mut vector = [0u32; 8192];
-    files::run_files(b"card.bin", b"kernel.bin", b"data.bin", &mut vector);
+    files::run_files(&rt, b"card.bin", b"kernel.bin", b"data.bin", &mut vector);
 }

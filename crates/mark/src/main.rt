@@ -5,6 +5,7 @@ use files::{CARD_BUFFER, DATA_BUFFER, KERNEL_BUFFER};
 use sheet_lines::SHEET_ROOM;
 use sheet_table::STEPS_ROOM;
 use sheet_text::LINE_ROOM;
+use std::rt::{Env, Files};
 
 const MODE: usize = 1;
 
@@ -24,20 +25,21 @@ const SHEET_BUFFER: usize = SHEET_ROOM + 1;
 const LINE_BUFFER: usize = NAME_BUFFER + LINE_ROOM;
 
 // The three lines of the differing step. The data is read anew, since marking changed it.
-fn show_step(card: &[u8], kernel: &[u8], sheet: &[u8], step: u32) {
+fn show_step(rt: &(impl Files + Env + Print), card: &[u8], kernel: &[u8], sheet: &[u8], step: u32) {
     let mut memory = [0u8; DATA_BUFFER];
     let mut vector = [0u32; 8192];
     let mut target = [0u8; SHEET_ROOM];
     let mut out = [0u8; STEPS_ROOM];
-    let b = files::read_argument(DATA, &mut memory);
+    let b = files::read_argument(rt, DATA, &mut memory);
     let own = sheet_files::model_files(card, kernel, &mut memory[..b], &mut vector, &mut target);
     let n = io::count(own.written as isize, &target);
     let m = sheet_table::step_lines(&target[..n], sheet, step as usize, &mut out);
-    io::write_all(1, &out[..m]);
+    files::print_bytes(rt, &out[..m]);
 }
 
-// The line of one sheet. A program has no exit status: a refused sheet is told on descriptor 3.
+// The line of one sheet. The exit status says nothing of it: a refused sheet is told on descriptor 3.
 fn print_marks(
+    rt: &(impl Files + Env + Print),
     card: &[u8],
     kernel: &[u8],
     bytes: &mut [u8],
@@ -49,28 +51,29 @@ fn print_marks(
     let mut out = [0u8; LINE_BUFFER];
     let line = sheet_files::mark_files(card, kernel, bytes, &mut vector, sheet, name, &mut out);
     let size = line.size;
-    io::write_all(1, &out[..size]);
+    files::print_bytes(rt, &out[..size]);
     if line.number != answer::DONE {
-        io::write_all(3, b"r");
+        files::tell_failure(rt);
     }
     if show & (line.step != 0) {
-        show_step(card, kernel, sheet, line.step);
+        show_step(rt, card, kernel, sheet, line.step);
     }
 }
 
 // The sheet that argument i names, against the three files.
-fn mark_sheet(i: usize, show: bool) {
+fn mark_sheet(rt: &(impl Files + Env + Print), i: usize, show: bool) {
     let mut name = [0u8; NAME_BUFFER];
     let mut cards = [0u8; CARD_BUFFER];
     let mut kernels = [0u8; KERNEL_BUFFER];
     let mut memory = [0u8; DATA_BUFFER];
     let mut sheets = [0u8; SHEET_BUFFER];
-    let n = os::arg(i, &mut name);
-    let c = files::read_argument(CARD, &mut cards);
-    let k = files::read_argument(KERNEL, &mut kernels);
-    let b = files::read_argument(DATA, &mut memory);
-    let s = files::read_file(&name[..n], &mut sheets);
+    let n = files::argument(rt, i, &mut name);
+    let c = files::read_argument(rt, CARD, &mut cards);
+    let k = files::read_argument(rt, KERNEL, &mut kernels);
+    let b = files::read_argument(rt, DATA, &mut memory);
+    let s = files::read_file(rt, &name[..n], &mut sheets);
     print_marks(
+        rt,
         &cards[..c],
         &kernels[..k],
         &mut memory[..b],
@@ -80,14 +83,14 @@ fn mark_sheet(i: usize, show: bool) {
     );
 }
 
-fn main() {
+fn main(rt: HostRuntime) {
     let mut mode = [0u8; 8];
-    let n = os::arg(MODE, &mut mode);
+    let n = files::argument(&rt, MODE, &mut mode);
     let show = check::same(&mode[..n], b"show");
-    let end = os::arg_count();
+    let end = files::argument_count(&rt);
     let mut i = FIRST_SHEET;
     while i < end {
-        mark_sheet(i, show);
+        mark_sheet(&rt, i, show);
         i += 1;
     }
 }

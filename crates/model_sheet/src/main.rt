@@ -5,6 +5,10 @@ use files::{CARD_BUFFER, DATA_BUFFER, KERNEL_BUFFER};
 use sheet_lines::SHEET_ROOM;
 use sheet_table::TABLE_ROOM;
 use sheet_text::LINE_ROOM;
+use std::fs::OpenFile;
+use std::io::{ErrorKind, Write};
+use std::rt::{Env, Files};
+use std::{fs, str};
 
 const CARD: usize = 1;
 
@@ -18,58 +22,63 @@ const NAME_BUFFER: usize = 4096;
 
 const LINE_BUFFER: usize = NAME_BUFFER + LINE_ROOM;
 
-// A program has no exit status: a failure is told on descriptor 3.
-fn tell_failure() {
-    io::write_all(3, b"r");
-}
-
-fn print_refusal(number: u32) {
+// The exit status says nothing of a failure: it is told on descriptor 3.
+fn print_refusal(rt: &(impl Files + Print), number: u32) {
     let mut out = [0u8; LINE_ROOM];
     let n = sheet_text::refusal_line(number, &mut out);
-    io::write_all(1, &out[..n]);
-    tell_failure();
+    files::print_bytes(rt, &out[..n]);
+    files::tell_failure(rt);
 }
 
-fn print_table(sheet: &[u8]) {
+fn print_table(rt: &impl Print, sheet: &[u8]) {
     let mut out = [0u8; TABLE_ROOM];
     let n = sheet_table::table(sheet, &mut out);
-    io::write_all(1, &out[..n]);
+    files::print_bytes(rt, &out[..n]);
 }
 
-fn write_file(path: &[u8], bytes: &[u8]) -> bool {
-    let file = os::open_overwrite(path);
-    if file < 0 {
-        return false;
+// std tells nothing of a close that fails, so the bytes are brought to the file before it; what keeps none, as a pipe, refuses that.
+fn is_kept(file: &impl OpenFile) -> bool {
+    match file.sync_all() {
+        Ok(()) => true,
+        Err(e) => matches!(e.kind(), ErrorKind::InvalidInput | ErrorKind::Unsupported),
     }
-    let done = io::write_all(file, bytes);
-    let closed = libc::close(file);
-    done & (closed == 0)
 }
 
-fn write_sheet(sheet: &[u8]) {
+// Whether the file holds the bytes. A name that is not text is one that std cannot open.
+fn write_file(rt: &impl Files, path: &[u8], bytes: &[u8]) -> bool {
+    let Ok(name) = str::from_utf8(path) else {
+        return false;
+    };
+    match fs::create(rt, name) {
+        Ok(mut file) => file.write_all(bytes).is_ok() && is_kept(&file),
+        Err(_) => false,
+    }
+}
+
+fn write_sheet(rt: &(impl Files + Env + Print), sheet: &[u8]) {
     let mut name = [0u8; NAME_BUFFER];
     let mut out = [0u8; LINE_BUFFER];
-    let n = os::arg(TARGET, &mut name);
-    if write_file(&name[..n], sheet) {
+    let n = files::argument(rt, TARGET, &mut name);
+    if write_file(rt, &name[..n], sheet) {
         let steps = sheet_lines::steps_in(sheet);
         let size = sheet_text::written_line(&name[..n], steps, sheet.len(), &mut out);
-        io::write_all(1, &out[..size]);
+        files::print_bytes(rt, &out[..size]);
         return;
     }
     let size = sheet_text::unwritten_line(&name[..n], &mut out);
-    io::write_all(1, &out[..size]);
-    tell_failure();
+    files::print_bytes(rt, &out[..size]);
+    files::tell_failure(rt);
 }
 
-fn main() {
+fn main(rt: HostRuntime) {
     let mut cards = [0u8; CARD_BUFFER];
     let mut kernels = [0u8; KERNEL_BUFFER];
     let mut memory = [0u8; DATA_BUFFER];
     let mut vector = [0u32; 8192];
     let mut target = [0u8; SHEET_ROOM];
-    let c = files::read_argument(CARD, &mut cards);
-    let k = files::read_argument(KERNEL, &mut kernels);
-    let b = files::read_argument(DATA, &mut memory);
+    let c = files::read_argument(&rt, CARD, &mut cards);
+    let k = files::read_argument(&rt, KERNEL, &mut kernels);
+    let b = files::read_argument(&rt, DATA, &mut memory);
     let own = sheet_files::model_files(
         &cards[..c],
         &kernels[..k],
@@ -80,13 +89,13 @@ fn main() {
     let a = own.answer;
     let number = answer::number(a);
     if number != answer::DONE {
-        print_refusal(number);
+        print_refusal(&rt, number);
         return;
     }
     let n = io::count(own.written as isize, &target);
-    if TARGET < os::arg_count() {
-        write_sheet(&target[..n]);
+    if TARGET < files::argument_count(&rt) {
+        write_sheet(&rt, &target[..n]);
     } else {
-        print_table(&target[..n]);
+        print_table(&rt, &target[..n]);
     }
 }

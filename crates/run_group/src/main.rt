@@ -7,16 +7,16 @@ use group_print::{CARDS_BYTES, ROOM};
 // A byte to spare, by which a file that is too large is noticed.
 const CARDS_BUFFER: usize = CARDS_BYTES + 1;
 
-fn main() {
+fn main(rt: HostRuntime) {
     let mut cards = [0u8; CARDS_BUFFER];
     let mut kernel = [0u8; KERNEL_BUFFER];
     let mut bytes = [0u8; DATA_BUFFER];
     let mut local = [0u8; DATA_BUFFER];
     let mut out = [0u8; ROOM];
-    let c = files::read_file(b"cards.bin", &mut cards);
-    let k = files::read_file(b"kernel.bin", &mut kernel);
-    let d = files::read_file(b"data.bin", &mut bytes);
-    let l = files::read_file(b"local.bin", &mut local);
+    let c = files::read_file(&rt, b"cards.bin", &mut cards);
+    let k = files::read_file(&rt, b"kernel.bin", &mut kernel);
+    let d = files::read_file(&rt, b"data.bin", &mut bytes);
+    let l = files::read_file(&rt, b"local.bin", &mut local);
     let n = group_print::print_group(
         &cards[..c],
         &kernel[..k],
@@ -24,5 +24,5 @@ fn main() {
         &mut local[..l],
         &mut out,
     );
-    io::write_all(1, &out[..n]);
+    files::print_bytes(&rt, &out[..n]);
 }

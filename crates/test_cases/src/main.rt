@@ -1,6 +1,9 @@
 // Runs the machine on the stored cases and writes a line for each. reference/CASES-FORMAT.md says what a case file holds and what a line says.
 #![tactic(auto)]
 
+use std::fs;
+use std::io::Read;
+use std::rt::Files;
 use test_io::STATE_WORDS;
 use warp::Launch;
 
@@ -54,6 +57,7 @@ fn launch_unless_saved(
 
 // After a refused launch the state is all zeros, which the run refuses in turn: nothing changes.
 fn run_lent(
+    rt: &impl Print,
     number: u32,
     kind: Kind,
     card: &[u8],
@@ -68,10 +72,17 @@ fn run_lent(
     let ran = capi::bench_run(state, kernel, vector, bytes, budget, &mut steps);
     let code = if launched == 0 { ran } else { launched };
     let last = run_digest(kind, state, vector, bytes);
-    test_io::put_state_line(number, code, steps[0], state, last);
+    test_io::put_state_line(rt, number, code, steps[0], state, last);
 }
 
-fn run_case(file: i32, number: u32, kind: Kind, card: &[u8], state: &mut [u32]) {
+fn run_case(
+    rt: &impl Print,
+    file: &mut impl Read,
+    number: u32,
+    kind: Kind,
+    card: &[u8],
+    state: &mut [u32],
+) {
     let mut kernel = test_io::kernel_room();
     let mut bytes = test_io::data_room();
     let mut vector = test_io::vector_room();
@@ -80,6 +91,7 @@ fn run_case(file: i32, number: u32, kind: Kind, card: &[u8], state: &mut [u32]) 
     let v = test_io::read_vector(file, &mut vector);
     let budget = test_io::next_word(file);
     run_lent(
+        rt,
         number,
         kind,
         card,
@@ -91,20 +103,20 @@ fn run_case(file: i32, number: u32, kind: Kind, card: &[u8], state: &mut [u32]) 
     );
 }
 
-fn launch_case(file: i32, number: u32, kind: Kind) {
+fn launch_case(rt: &impl Print, file: &mut impl Read, number: u32, kind: Kind) {
     let mut card = [0u8; 100];
     let c = test_io::read_card(file, &mut card);
     let mut state = [0u32; STATE_WORDS];
-    run_case(file, number, kind, &card[..c], &mut state);
+    run_case(rt, file, number, kind, &card[..c], &mut state);
 }
 
-fn state_case(file: i32, number: u32) {
+fn state_case(rt: &impl Print, file: &mut impl Read, number: u32) {
     let mut state = [0u32; 256];
     let s = test_io::read_state(file, &mut state);
-    run_case(file, number, Kind::Saved, b"", &mut state[..s]);
+    run_case(rt, file, number, Kind::Saved, b"", &mut state[..s]);
 }
 
-fn read_card_case(file: i32, number: u32) {
+fn read_card_case(rt: &impl Print, file: &mut impl Read, number: u32) {
     let mut card = [0u8; 100];
     let c = test_io::read_card(file, &mut card);
     let read = card::read_card(&card[..c]);
@@ -129,6 +141,7 @@ fn read_card_case(file: i32, number: u32) {
     ];
     let digest = test_io::mixed_words(test_io::DIGEST, &words);
     test_io::put_line(
+        rt,
         number,
         answer::number(a),
         0,
@@ -139,21 +152,22 @@ fn read_card_case(file: i32, number: u32) {
     );
 }
 
-fn release_lent(number: u32, state: &mut [u32]) {
+fn release_lent(rt: &impl Print, number: u32, state: &mut [u32]) {
     let code = capi::bench_release(state);
     let digest = test_io::mixed_words(test_io::DIGEST, state);
-    test_io::put_state_line(number, code, 0, state, digest);
+    test_io::put_state_line(rt, number, code, 0, state, digest);
 }
 
-fn release_case(file: i32, number: u32) {
+fn release_case(rt: &impl Print, file: &mut impl Read, number: u32) {
     let mut state = [0u32; 256];
     let s = test_io::read_state(file, &mut state);
-    release_lent(number, &mut state[..s]);
+    release_lent(rt, number, &mut state[..s]);
 }
 
-fn write_lent(number: u32, l: Launch, target: &mut [u8]) {
+fn write_lent(rt: &impl Print, number: u32, l: Launch, target: &mut [u8]) {
     let code = answer::number(card::write_card(l, target));
     test_io::put_line(
+        rt,
         number,
         code,
         0,
@@ -164,42 +178,47 @@ fn write_lent(number: u32, l: Launch, target: &mut [u8]) {
     );
 }
 
-fn write_card_case(file: i32, number: u32) {
+fn write_card_case(rt: &impl Print, file: &mut impl Read, number: u32) {
     let l = test_io::read_launch(file);
     let mut target = [165u8; 100];
     let n = test_io::bytes_in(&target, test_io::next_word(file));
-    write_lent(number, l, &mut target[..n]);
+    write_lent(rt, number, l, &mut target[..n]);
 }
 
-fn next_case(file: i32, number: u32) {
+fn next_case(rt: &impl Print, file: &mut impl Read, number: u32) {
     let kind = kind_of(test_io::next_byte(file));
     // The body's length, which its kind's parts give again.
     test_io::next_word(file);
     match kind {
-        Kind::Saved => state_case(file, number),
-        Kind::ReadCard => read_card_case(file, number),
-        Kind::Release => release_case(file, number),
-        Kind::WriteCard => write_card_case(file, number),
-        _ => launch_case(file, number, kind),
+        Kind::Saved => state_case(rt, file, number),
+        Kind::ReadCard => read_card_case(rt, file, number),
+        Kind::Release => release_case(rt, file, number),
+        Kind::WriteCard => write_card_case(rt, file, number),
+        _ => launch_case(rt, file, number, kind),
     }
 }
 
 // The lines of a case file's cases, numbered from 0.
-fn run_file(path: &[u8]) {
-    let file = os::open_read(path);
+fn run_cases(rt: &impl Print, file: &mut impl Read) {
     // The file's letters.
     test_io::next_word(file);
     let count = test_io::next_word(file);
     let mut i: u32 = 0;
     while i < count {
-        next_case(file, i);
+        next_case(rt, file, i);
         i += 1;
     }
-    libc::close(file);
 }
 
-fn main() {
-    run_file(b"generated.bin");
-    run_file(b"riscv_tests.bin");
-    run_file(b"vector_ops.bin");
+// No lines where the file cannot be opened.
+fn run_file(rt: &(impl Files + Print), path: &str) {
+    if let Ok(mut file) = fs::open(rt, path) {
+        run_cases(rt, &mut file);
+    }
+}
+
+fn main(rt: HostRuntime) {
+    run_file(&rt, "generated.bin");
+    run_file(&rt, "riscv_tests.bin");
+    run_file(&rt, "vector_ops.bin");
 }

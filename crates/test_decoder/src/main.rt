@@ -4,6 +4,7 @@
 ghost use Rattle.std.specs.Prelude.{◌<◌};
 
 use isa::{CsrOp, Instr, LoadOp, Source, Space, StoreOp};
+use std::io::Read;
 use word::{Cond, Op};
 
 #[derive(Clone, Copy)]
@@ -212,7 +213,7 @@ fn wide(x: u8) -> u32
     x as u32
 }
 
-fn print(l: Parts) {
+fn print(rt: &impl Print, l: Parts) {
     let kind = l.kind;
     let op = wide(l.op);
     let a = wide(l.a);
@@ -243,7 +244,7 @@ fn print(l: Parts) {
         digit(n),
         b'\n',
     ];
-    io::write_all(libc::STDOUT_FILENO, &text);
+    let _ = rt.write_all(&text);
 }
 
 fn joined(a: u8, b: u8, c: u8, d: u8) -> u32 {
@@ -251,21 +252,24 @@ fn joined(a: u8, b: u8, c: u8, d: u8) -> u32 {
 }
 
 // The next word's line; false at the end of the input.
-fn next() -> bool {
+fn next(rt: &impl Print, input: &mut impl Read) -> bool {
     let mut b = [0u8; 4];
-    let got = io::read_full(libc::STDIN_FILENO, &mut b);
-    if got == 4 {
-        print(shown(instruction::decode(joined(b[0], b[1], b[2], b[3]))));
+    if input.read_exact(&mut b).is_ok() {
+        print(
+            rt,
+            shown(instruction::decode(joined(b[0], b[1], b[2], b[3]))),
+        );
         true
     } else {
         false
     }
 }
 
-fn main() {
+fn main(rt: HostRuntime) {
+    let mut input = rt.stdin();
     let mut left: u32 = 65536;
     while 0 < left {
-        if next() {
+        if next(&rt, &mut input) {
             left -= 1;
         } else {
             left = 0;

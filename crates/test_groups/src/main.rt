@@ -1,8 +1,10 @@
 // Calls a group's launch, step and run on the stored cases and writes a line for each. reference/CASES-FORMAT.md says what a case file holds and what a line says.
-
-// The kinds of a case that launches a group and then runs it and of one that steps a saved group; the others run a saved group.
 #![tactic(auto)]
 
+use std::fs;
+use std::io::Read;
+
+// The kinds of a case that launches a group and then runs it and of one that steps a saved group; the others run a saved group.
 const LAUNCH: u32 = 10;
 
 const STEP: u32 = 11;
@@ -20,6 +22,7 @@ const GROUP_ROOM: usize = 7954;
 const VECTOR_ROOM: usize = 270336;
 
 fn put_group_line(
+    rt: &impl Print,
     number: u32,
     code: u32,
     steps: u32,
@@ -32,12 +35,12 @@ fn put_group_line(
 ) {
     let group = test_io::mixed_words(test_io::DIGEST, state);
     let lent = test_io::mixed_bytes(test_io::mixed_lent(group, vector, bytes), local);
-    test_io::put_decimal(number);
-    test_io::put_decimal(code);
-    test_io::put_decimal(steps);
-    test_io::put_decimal(wid);
-    test_io::put_decimal(test_io::word_of(state, state.len(), 0));
-    test_io::put_last(test_io::mixed_words(lent, answered));
+    test_io::put_decimal(rt, number);
+    test_io::put_decimal(rt, code);
+    test_io::put_decimal(rt, steps);
+    test_io::put_decimal(rt, wid);
+    test_io::put_decimal(rt, test_io::word_of(state, state.len(), 0));
+    test_io::put_last(rt, test_io::mixed_words(lent, answered));
 }
 
 // A group whose launch was refused is not run: the answer is the launch's.
@@ -58,6 +61,7 @@ fn run_launched(
 }
 
 fn launch_lent(
+    rt: &impl Print,
     number: u32,
     cards: &[u8],
     state: &mut [u32],
@@ -73,12 +77,13 @@ fn launch_lent(
         launched, state, kernel, vector, bytes, local, budget, &mut out,
     );
     put_group_line(
-        number, code, out[0], out[1], state, vector, bytes, local, &out,
+        rt, number, code, out[0], out[1], state, vector, bytes, local, &out,
     );
 }
 
 fn launch_case(
-    file: i32,
+    rt: &impl Print,
+    file: &mut impl Read,
     number: u32,
     cards: &[u8],
     state: &mut [u32],
@@ -90,6 +95,7 @@ fn launch_case(
     let s = test_io::words_in(state, test_io::next_word(file));
     let budget = test_io::next_word(file);
     launch_lent(
+        rt,
         number,
         cards,
         &mut state[..s],
@@ -102,6 +108,7 @@ fn launch_case(
 }
 
 fn step_lent(
+    rt: &impl Print,
     number: u32,
     state: &mut [u32],
     kernel: &[u32],
@@ -114,12 +121,13 @@ fn step_lent(
     let steps = if code == 0 { 1 } else { 0 };
     let wid = test_io::word_of(stopped, 1, 0);
     put_group_line(
-        number, code, steps, wid, state, vector, bytes, local, stopped,
+        rt, number, code, steps, wid, state, vector, bytes, local, stopped,
     );
 }
 
 fn step_case(
-    file: i32,
+    rt: &impl Print,
+    file: &mut impl Read,
     number: u32,
     state: &mut [u32],
     kernel: &[u32],
@@ -130,6 +138,7 @@ fn step_case(
     let mut stopped = [WORD_BEFORE; 3];
     let n = test_io::words_in(&stopped, test_io::next_word(file));
     step_lent(
+        rt,
         number,
         state,
         kernel,
@@ -141,6 +150,7 @@ fn step_case(
 }
 
 fn run_lent(
+    rt: &impl Print,
     number: u32,
     state: &mut [u32],
     kernel: &[u32],
@@ -153,11 +163,14 @@ fn run_lent(
     let code = capi_group::bench_group_run(state, kernel, vector, bytes, local, budget, out);
     let steps = test_io::word_of(out, 2, 0);
     let wid = test_io::word_of(out, 2, 1);
-    put_group_line(number, code, steps, wid, state, vector, bytes, local, out);
+    put_group_line(
+        rt, number, code, steps, wid, state, vector, bytes, local, out,
+    );
 }
 
 fn run_case(
-    file: i32,
+    rt: &impl Print,
+    file: &mut impl Read,
     number: u32,
     state: &mut [u32],
     kernel: &[u32],
@@ -169,6 +182,7 @@ fn run_case(
     let mut out = [WORD_BEFORE; 3];
     let n = test_io::words_in(&out, test_io::next_word(file));
     run_lent(
+        rt,
         number,
         state,
         kernel,
@@ -181,7 +195,8 @@ fn run_case(
 }
 
 fn case_lent(
-    file: i32,
+    rt: &impl Print,
+    file: &mut impl Read,
     number: u32,
     kind: u32,
     cards: &[u8],
@@ -192,16 +207,24 @@ fn case_lent(
     local: &mut [u8],
 ) {
     if kind == LAUNCH {
-        launch_case(file, number, cards, state, kernel, vector, bytes, local);
+        launch_case(rt, file, number, cards, state, kernel, vector, bytes, local);
     } else if kind == STEP {
-        step_case(file, number, state, kernel, vector, bytes, local);
+        step_case(rt, file, number, state, kernel, vector, bytes, local);
     } else {
-        run_case(file, number, state, kernel, vector, bytes, local);
+        run_case(rt, file, number, state, kernel, vector, bytes, local);
     }
 }
 
 // What all kinds have after cards or group is read here, the rest by the kind's own function.
-fn lend(file: i32, number: u32, kind: u32, cards: &[u8], state: &mut [u32], vector: &mut [u32]) {
+fn lend(
+    rt: &impl Print,
+    file: &mut impl Read,
+    number: u32,
+    kind: u32,
+    cards: &[u8],
+    state: &mut [u32],
+    vector: &mut [u32],
+) {
     let mut kernel = test_io::kernel_room();
     let mut bytes = test_io::data_room();
     let mut local = test_io::data_room();
@@ -211,6 +234,7 @@ fn lend(file: i32, number: u32, kind: u32, cards: &[u8], state: &mut [u32], vect
     // Local memory is stored as data is.
     let l = test_io::read_data(file, &mut local);
     case_lent(
+        rt,
         file,
         number,
         kind,
@@ -223,32 +247,32 @@ fn lend(file: i32, number: u32, kind: u32, cards: &[u8], state: &mut [u32], vect
     );
 }
 
-fn cards_case(file: i32, number: u32, kind: u32, vector: &mut [u32]) {
+fn cards_case(rt: &impl Print, file: &mut impl Read, number: u32, kind: u32, vector: &mut [u32]) {
     let mut cards = [0u8; CARDS_ROOM];
     let c = test_io::read_card(file, &mut cards);
     let mut state = [WORD_BEFORE; STATE_ROOM];
-    lend(file, number, kind, &cards[..c], &mut state, vector);
+    lend(rt, file, number, kind, &cards[..c], &mut state, vector);
 }
 
-fn group_case(file: i32, number: u32, kind: u32, vector: &mut [u32]) {
+fn group_case(rt: &impl Print, file: &mut impl Read, number: u32, kind: u32, vector: &mut [u32]) {
     let mut state = [0u32; GROUP_ROOM];
     let s = test_io::read_group(file, &mut state);
-    lend(file, number, kind, b"", &mut state[..s], vector);
+    lend(rt, file, number, kind, b"", &mut state[..s], vector);
 }
 
-fn next_case(file: i32, number: u32, vector: &mut [u32]) {
+fn next_case(rt: &impl Print, file: &mut impl Read, number: u32, vector: &mut [u32]) {
     let kind = test_io::next_byte(file);
     // The body's length, which its kind's parts give again.
     test_io::next_word(file);
     if kind == LAUNCH {
-        cards_case(file, number, kind, vector);
+        cards_case(rt, file, number, kind, vector);
     } else {
-        group_case(file, number, kind, vector);
+        group_case(rt, file, number, kind, vector);
     }
 }
 
-fn main() {
-    let file = os::open_read(b"groups.bin");
+// The lines of a case file's cases, numbered from 0.
+fn run_cases(rt: &impl Print, file: &mut impl Read) {
     // The file's letters.
     test_io::next_word(file);
     let count = test_io::next_word(file);
@@ -256,8 +280,14 @@ fn main() {
     let mut vector = [0u32; VECTOR_ROOM];
     let mut i: u32 = 0;
     while i < count {
-        next_case(file, i, &mut vector);
+        next_case(rt, file, i, &mut vector);
         i += 1;
     }
-    libc::close(file);
+}
+
+// No lines where the file cannot be opened.
+fn main(rt: HostRuntime) {
+    if let Ok(mut file) = fs::open(&rt, "groups.bin") {
+        run_cases(&rt, &mut file);
+    }
 }

@@ -4,6 +4,7 @@
 ghost use Rattle.std.specs.Prelude.{◌≡◌, ◌<◌, length};
 ghost use Rattle.io.specs.Counts.{IsPrefixLen};
 
+use std::io::Read;
 use warp::{Fixed, Launch};
 
 // The words of a saved state, and where the open splits, the PC and the mask stand among them.
@@ -18,7 +19,7 @@ const MASK_AT: usize = 221;
 // Where a digest starts.
 pub const DIGEST: u32 = 2166136261;
 
-// ---- the input: numbers are big-endian, and all that follows its end is 0
+// ---- the input: numbers are big-endian, and all that follows its end or a read that fails is 0
 
 fn wide(x: u8) -> u32
     ensures { result < 256 }
@@ -26,15 +27,15 @@ fn wide(x: u8) -> u32
     x as u32
 }
 
-pub fn next_byte(file: i32) -> u32 {
+pub fn next_byte(file: &mut impl Read) -> u32 {
     let mut b = [0u8; 1];
-    io::read_full(file, &mut b);
+    let _ = file.read_exact(&mut b);
     wide(b[0])
 }
 
-pub fn next_word(file: i32) -> u32 {
+pub fn next_word(file: &mut impl Read) -> u32 {
     let mut b = [0u8; 4];
-    io::read_full(file, &mut b);
+    let _ = file.read_exact(&mut b);
     wide(b[3]) + wide(b[2]) * 256 + wide(b[1]) * 65536 + wide(b[0]) * 16777216
 }
 
@@ -89,7 +90,7 @@ fn put_byte(to: &mut [u8], i: usize, b: u32) {
 }
 
 // The index of a word that a state names is a byte, that of a group's word is a word.
-fn next_index(group: bool, file: i32) -> u32 {
+fn next_index(group: bool, file: &mut impl Read) -> u32 {
     if group {
         next_word(file)
     } else {
@@ -98,7 +99,7 @@ fn next_index(group: bool, file: i32) -> u32 {
 }
 
 // Words that a state or a group names by their index; the others stay.
-fn read_entries(group: bool, file: i32, to: &mut [u32], n: u32) {
+fn read_entries(group: bool, file: &mut impl Read, to: &mut [u32], n: u32) {
     let mut i: u32 = 0;
     while i < n {
         let at = next_index(group, file);
@@ -147,7 +148,7 @@ fn vector_word(register: u32, x: u32, base: u32, mask: u32) -> u32 {
     }
 }
 
-fn word_from(source: Words, file: i32, i: u32, x: u32) -> u32 {
+fn word_from(source: Words, file: &mut impl Read, i: u32, x: u32) -> u32 {
     match source {
         Words::Stored => next_word(file),
         Words::Same(w) => w,
@@ -155,7 +156,7 @@ fn word_from(source: Words, file: i32, i: u32, x: u32) -> u32 {
     }
 }
 
-fn byte_from(stored: bool, file: i32, x: u32) -> u32 {
+fn byte_from(stored: bool, file: &mut impl Read, x: u32) -> u32 {
     if stored {
         next_byte(file)
     } else {
@@ -164,7 +165,7 @@ fn byte_from(stored: bool, file: i32, x: u32) -> u32 {
 }
 
 // The words, and below the bytes, with index `from` to `end` - 1.
-fn put_words(source: Words, file: i32, seed: u32, to: &mut [u32], from: u32, end: u32) {
+fn put_words(source: Words, file: &mut impl Read, seed: u32, to: &mut [u32], from: u32, end: u32) {
     let mut x = seed;
     let mut i = from;
     while i < end {
@@ -174,7 +175,7 @@ fn put_words(source: Words, file: i32, seed: u32, to: &mut [u32], from: u32, end
     }
 }
 
-fn put_bytes(stored: bool, file: i32, seed: u32, to: &mut [u8], from: u32, end: u32) {
+fn put_bytes(stored: bool, file: &mut impl Read, seed: u32, to: &mut [u8], from: u32, end: u32) {
     let mut x = seed;
     let mut i = from;
     while i < end {
@@ -186,7 +187,7 @@ fn put_bytes(stored: bool, file: i32, seed: u32, to: &mut [u8], from: u32, end: 
 
 // ---- the parts of a case, each at the start of its buffer; its length is the answer
 
-pub fn read_card(file: i32, card: &mut [u8]) -> usize
+pub fn read_card(file: &mut impl Read, card: &mut [u8]) -> usize
     ensures { IsPrefixLen result card.new }
 {
     let n = next_word(file);
@@ -194,7 +195,7 @@ pub fn read_card(file: i32, card: &mut [u8]) -> usize
     bytes_in(card, n)
 }
 
-pub fn read_kernel(file: i32, kernel: &mut [u32]) -> usize
+pub fn read_kernel(file: &mut impl Read, kernel: &mut [u32]) -> usize
     ensures { IsPrefixLen result kernel.new }
 {
     let n = next_word(file);
@@ -205,7 +206,7 @@ pub fn read_kernel(file: i32, kernel: &mut [u32]) -> usize
     words_in(kernel, n)
 }
 
-pub fn read_data(file: i32, bytes: &mut [u8]) -> usize
+pub fn read_data(file: &mut impl Read, bytes: &mut [u8]) -> usize
     ensures { IsPrefixLen result bytes.new }
 {
     let n = next_word(file);
@@ -216,7 +217,7 @@ pub fn read_data(file: i32, bytes: &mut [u8]) -> usize
     bytes_in(bytes, n)
 }
 
-pub fn read_vector(file: i32, vector: &mut [u32]) -> usize
+pub fn read_vector(file: &mut impl Read, vector: &mut [u32]) -> usize
     ensures { IsPrefixLen result vector.new }
 {
     let n = next_word(file);
@@ -227,7 +228,7 @@ pub fn read_vector(file: i32, vector: &mut [u32]) -> usize
     words_in(vector, n)
 }
 
-pub fn read_state(file: i32, state: &mut [u32]) -> usize
+pub fn read_state(file: &mut impl Read, state: &mut [u32]) -> usize
     ensures { IsPrefixLen result state.new }
 {
     let n = next_word(file);
@@ -236,7 +237,7 @@ pub fn read_state(file: i32, state: &mut [u32]) -> usize
     words_in(state, n)
 }
 
-pub fn read_group(file: i32, state: &mut [u32]) -> usize
+pub fn read_group(file: &mut impl Read, state: &mut [u32]) -> usize
     ensures { IsPrefixLen result state.new }
 {
     let n = next_word(file);
@@ -245,7 +246,7 @@ pub fn read_group(file: i32, state: &mut [u32]) -> usize
     words_in(state, n)
 }
 
-pub fn read_launch(file: i32) -> Launch {
+pub fn read_launch(file: &mut impl Read) -> Launch {
     let numt = next_word(file);
     let numw = next_word(file);
     let wid = next_word(file);
@@ -313,36 +314,51 @@ pub fn mixed_lent(h: u32, vector: &[u32], bytes: &[u8]) -> u32 {
     mixed_bytes(mixed_words(h, vector), bytes)
 }
 
-// ---- a line
+// ---- a line; what a write that fails should have written is lost
 
-pub fn put_decimal(n: u32) {
-    io::print_decimal(libc::STDOUT_FILENO, n as u64);
-    io::write_all(libc::STDOUT_FILENO, b" ");
+pub fn put_decimal(rt: &impl Print, n: u32) {
+    let _ = print!(rt; "{n} ");
 }
 
-fn put_hex(n: u32, after: &[u8]) {
-    io::print_hex(libc::STDOUT_FILENO, n as u64, 8);
-    io::write_all(libc::STDOUT_FILENO, after);
+fn put_hex(rt: &impl Print, n: u32) {
+    let _ = print!(rt; "{n:08x} ");
 }
 
 // A line's last field, which ends it.
-pub fn put_last(n: u32) {
-    put_hex(n, b"\n");
+pub fn put_last(rt: &impl Print, n: u32) {
+    let _ = println!(rt; "{n:08x}");
 }
 
-pub fn put_line(number: u32, code: u32, steps: u32, pc: u32, mask: u32, splits: u32, last: u32) {
-    put_decimal(number);
-    put_decimal(code);
-    put_decimal(steps);
-    put_hex(pc, b" ");
-    put_hex(mask, b" ");
-    put_decimal(splits);
-    put_last(last);
+pub fn put_line(
+    rt: &impl Print,
+    number: u32,
+    code: u32,
+    steps: u32,
+    pc: u32,
+    mask: u32,
+    splits: u32,
+    last: u32,
+) {
+    put_decimal(rt, number);
+    put_decimal(rt, code);
+    put_decimal(rt, steps);
+    put_hex(rt, pc);
+    put_hex(rt, mask);
+    put_decimal(rt, splits);
+    put_last(rt, last);
 }
 
-pub fn put_state_line(number: u32, code: u32, steps: u32, state: &[u32], last: u32) {
+pub fn put_state_line(
+    rt: &impl Print,
+    number: u32,
+    code: u32,
+    steps: u32,
+    state: &[u32],
+    last: u32,
+) {
     if state.len() == STATE_WORDS {
         put_line(
+            rt,
             number,
             code,
             steps,
@@ -352,7 +368,7 @@ pub fn put_state_line(number: u32, code: u32, steps: u32, state: &[u32], last: u
             last,
         );
     } else {
-        put_line(number, code, steps, 0, 0, 0, last);
+        put_line(rt, number, code, steps, 0, 0, 0, last);
     }
 }
 

@@ -1,8 +1,10 @@
 // Calls marking and the model sheet on the stored cases and writes a line for each. reference/CASES-FORMAT.md says what a case file holds and what a line says.
-
-// The kind of a case that marks a sheet; the others write one.
 #![tactic(auto)]
 
+use std::fs;
+use std::io::Read;
+
+// The kind of a case that marks a sheet; the others write one.
 const MARK: u32 = 8;
 
 // The words and bytes of a result, a written and a target before the call.
@@ -14,6 +16,7 @@ const BYTE_BEFORE: u8 = 165;
 const TARGET_ROOM: usize = 53293;
 
 fn mark_lent(
+    rt: &impl Print,
     number: u32,
     card: &[u8],
     kernel: &[u32],
@@ -24,15 +27,16 @@ fn mark_lent(
 ) {
     let code = capi_sheet::bench_mark(card, kernel, vector, bytes, sheet, res);
     let digest = test_io::mixed_words(test_io::DIGEST, res);
-    test_io::put_decimal(number);
-    test_io::put_decimal(code);
-    test_io::put_decimal(test_io::word_of(res, 2, 0));
-    test_io::put_decimal(test_io::word_of(res, 2, 1));
-    test_io::put_last(test_io::mixed_lent(digest, vector, bytes));
+    test_io::put_decimal(rt, number);
+    test_io::put_decimal(rt, code);
+    test_io::put_decimal(rt, test_io::word_of(res, 2, 0));
+    test_io::put_decimal(rt, test_io::word_of(res, 2, 1));
+    test_io::put_last(rt, test_io::mixed_lent(digest, vector, bytes));
 }
 
 fn mark_case(
-    file: i32,
+    rt: &impl Print,
+    file: &mut impl Read,
     number: u32,
     card: &[u8],
     kernel: &[u32],
@@ -45,6 +49,7 @@ fn mark_case(
     let mut result = [WORD_BEFORE; 4];
     let r = test_io::words_in(&result, test_io::next_word(file));
     mark_lent(
+        rt,
         number,
         card,
         kernel,
@@ -56,6 +61,7 @@ fn mark_case(
 }
 
 fn write_lent(
+    rt: &impl Print,
     number: u32,
     card: &[u8],
     kernel: &[u32],
@@ -66,14 +72,15 @@ fn write_lent(
 ) {
     let code = capi_sheet::bench_sheet(card, kernel, vector, bytes, target, written);
     let digest = test_io::mixed_bytes(test_io::mixed_words(test_io::DIGEST, written), target);
-    test_io::put_decimal(number);
-    test_io::put_decimal(code);
-    test_io::put_decimal(test_io::word_of(written, 1, 0));
-    test_io::put_last(test_io::mixed_lent(digest, vector, bytes));
+    test_io::put_decimal(rt, number);
+    test_io::put_decimal(rt, code);
+    test_io::put_decimal(rt, test_io::word_of(written, 1, 0));
+    test_io::put_last(rt, test_io::mixed_lent(digest, vector, bytes));
 }
 
 fn write_case(
-    file: i32,
+    rt: &impl Print,
+    file: &mut impl Read,
     number: u32,
     card: &[u8],
     kernel: &[u32],
@@ -85,6 +92,7 @@ fn write_case(
     let mut written = [WORD_BEFORE; 3];
     let w = test_io::words_in(&written, test_io::next_word(file));
     write_lent(
+        rt,
         number,
         card,
         kernel,
@@ -96,7 +104,7 @@ fn write_case(
 }
 
 // What both kinds begin with is read here, the rest by the kind's own function.
-fn next_case(file: i32, number: u32) {
+fn next_case(rt: &impl Print, file: &mut impl Read, number: u32) {
     let kind = test_io::next_byte(file);
     // The body's length, which its kind's parts give again.
     test_io::next_word(file);
@@ -110,6 +118,7 @@ fn next_case(file: i32, number: u32) {
     let v = test_io::read_vector(file, &mut vector);
     if kind == MARK {
         mark_case(
+            rt,
             file,
             number,
             &card[..c],
@@ -119,6 +128,7 @@ fn next_case(file: i32, number: u32) {
         );
     } else {
         write_case(
+            rt,
             file,
             number,
             &card[..c],
@@ -129,15 +139,21 @@ fn next_case(file: i32, number: u32) {
     }
 }
 
-fn main() {
-    let file = os::open_read(b"marks.bin");
+// The lines of a case file's cases, numbered from 0.
+fn run_cases(rt: &impl Print, file: &mut impl Read) {
     // The file's letters.
     test_io::next_word(file);
     let count = test_io::next_word(file);
     let mut i: u32 = 0;
     while i < count {
-        next_case(file, i);
+        next_case(rt, file, i);
         i += 1;
     }
-    libc::close(file);
+}
+
+// No lines where the file cannot be opened.
+fn main(rt: HostRuntime) {
+    if let Ok(mut file) = fs::open(&rt, "marks.bin") {
+        run_cases(&rt, &mut file);
+    }
 }
