@@ -4,7 +4,8 @@
 usage: python3 tools/snake_names.py [--dry]    at the top of the repository
 
 A name that an .antt file below crates/ declares in lower case, as `maskOf` or `each-keeps`, becomes `mask_of` and `each_keeps`, wherever it stands in
-specs/, proofs/, the clauses of src/ and the edits. Types, modules, and names of the Rattle sources stay. Where a lemma's name falls together with a definition's, the lemma gets `_lem` at its end.
+specs/, proofs/, the clauses of src/ and the edits, in strings of the sources too, which are to be looked through afterwards. Types, modules, and names
+of the Rattle sources stay. Where a lemma's name falls together with a definition's, the lemma gets `_lem` at its end.
 """
 
 import os

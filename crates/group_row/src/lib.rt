@@ -93,7 +93,7 @@ fn step(
     StepLeft { group: u, ended: e }
 }
 
-// ---- over the lent run: walks by hand
+// ---- over the lent run
 
 fn gather(ws: &mut [Warp], turn: u32) -> Group
     ensures { (result ≡ held_of (overlaid (room_of (length ws.old)) ws.old (replicate warps_limit zero_warp)) (length ws.old) turn) × (ws.new ≡ ws.old) }

@@ -89,9 +89,9 @@ fn malformed_cards(rt: &HostRuntime) {
     );
     case(
         rt,
-        b"no_card/card.bin",
-        b"no_card/kernel.bin",
-        b"no_card/data.bin",
+        b"no-card/card.bin",
+        b"no-card/kernel.bin",
+        b"no-card/data.bin",
     );
     case(
         rt,
