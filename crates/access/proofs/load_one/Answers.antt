@@ -1,16 +1,8 @@
 use mathlib.Core.Path.{◌≡◌, sym, ◌∙◌}
 use Rattle.memory.specs.Memory.{size_of, inside_of}
 use Rattle.memory.specs.Memories.{Data, contents, memories, memory_at}
-use Rattle.memory.proofs.Access.{then_local}
 use Rattle.memory.proofs.Laws.{load_data, load_local}
 use Rattle.access.proofs.load_one.Goals as goal
-
-pub load_at-requires : goal.load_at-requires
-load_at-requires c =
-    let s = c.args in
-    let both = memories s.base s.near (contents s.d.now s.l.now) in
-    let own : inside_of (memory_at Data both) (size_of s.k) s.a ≡ c.inside.result = rw (← c.size.ensures.0) (sym c.inside.ensures) in
-    own ∙ c.if-inside.true
 
 pub returns-then-inside : goal.returns-then-inside
 returns-then-inside c =
@@ -18,13 +10,6 @@ returns-then-inside c =
     let both = memories s.base s.near (contents s.d.now s.l.now) in
     let own : inside_of (memory_at Data both) (size_of s.k) s.a ≡ c.inside.result = rw (← c.size.ensures.0) (sym c.inside.ensures) in
     c.load_at.ensures ∙ sym (load_data both s.a s.k (own ∙ c.if-inside.true))
-
-pub load_at-requires-2 : goal.load_at-requires-2
-load_at-requires-2 c =
-    let s = c.args in
-    let both = memories s.base s.near (contents s.d.now s.l.now) in
-    let own : inside_of (memory_at Data both) (size_of s.k) s.a ≡ c.inside.result = rw (← c.size.ensures.0) (sym c.inside.ensures) in
-    then_local both (size_of s.k) s.a c.requires.1 (own ∙ c.if-inside.false)
 
 pub returns : goal.returns
 returns c =

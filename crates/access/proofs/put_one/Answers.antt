@@ -3,16 +3,8 @@ use mathlib.Core.List.{List}
 use Prim.Native.Nat.{ℕ}
 use Rattle.memory.specs.Memory.{width_of, inside_of}
 use Rattle.memory.specs.Memories.{Data, contents, memories, memory_at}
-use Rattle.memory.proofs.Access.{then_local}
 use Rattle.memory.proofs.Laws.{store_data, store_local}
 use Rattle.access.proofs.put_one.Goals as goal
-
-pub put_at-requires : goal.put_at-requires
-put_at-requires c =
-    let s = c.args in
-    let both = memories s.base s.near (contents s.d.now s.l.now) in
-    let own : inside_of (memory_at Data both) (width_of s.k) s.a ≡ c.inside.result = rw (← c.width.ensures.0) (sym c.inside.ensures) in
-    own ∙ c.if-inside.true
 
 pub returns-then-inside : goal.returns-then-inside
 returns-then-inside c =
@@ -20,13 +12,6 @@ returns-then-inside c =
     let both = memories s.base s.near (contents s.d.now s.l.now) in
     let own : inside_of (memory_at Data both) (width_of s.k) s.a ≡ c.inside.result = rw (← c.width.ensures.0) (sym c.inside.ensures) in
     ap (λ (d : List ℕ). contents d s.l.now) c.put_at.ensures ∙ sym (store_data both s.a s.k s.x (own ∙ c.if-inside.true))
-
-pub put_at-requires-2 : goal.put_at-requires-2
-put_at-requires-2 c =
-    let s = c.args in
-    let both = memories s.base s.near (contents s.d.now s.l.now) in
-    let own : inside_of (memory_at Data both) (width_of s.k) s.a ≡ c.inside.result = rw (← c.width.ensures.0) (sym c.inside.ensures) in
-    then_local both (width_of s.k) s.a c.requires.1 (own ∙ c.if-inside.false)
 
 pub returns : goal.returns
 returns c =

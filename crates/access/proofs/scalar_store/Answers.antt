@@ -1,18 +1,11 @@
-use mathlib.Core.Path.{◌≡◌, refl, sym, ap, ◌∙◌}
+use mathlib.Core.Path.{◌≡◌, sym, ap, ◌∙◌}
 use mathlib.Core.List.{List}
 use Prim.Native.Nat.{ℕ}
 use Rattle.memory.specs.Memory.{width_of, inside_of}
 use Rattle.memory.specs.Memories.{Data, Local, contents, memories, memory_at}
-use Rattle.memory.proofs.Access.{in_data, in_local, in_neither}
+use Rattle.memory.proofs.Access.{in_data, in_local}
 use Rattle.memory.proofs.Laws.{store_data, store_local}
 use Rattle.access.proofs.scalar_store.Goals as goal
-
-pub put_at-requires : goal.put_at-requires
-put_at-requires c =
-    let s = c.args in
-    let both = memories s.base s.near (contents s.d.now s.l.now) in
-    let own : inside_of (memory_at Data both) (width_of s.k) s.a ≡ c.inside.result = rw (← c.width.ensures.0) (sym c.inside.ensures) in
-    own ∙ c.if-inside.true
 
 pub returns-then-inside : goal.returns-then-inside
 returns-then-inside c =
@@ -24,14 +17,6 @@ returns-then-inside c =
       ap (λ (d : List ℕ). contents d s.l.now) c.put_at.ensures ∙ sym (store_data both s.a s.k s.x e),
     )
 
-pub put_at-requires-then-inside-2 : goal.put_at-requires-then-inside-2
-put_at-requires-then-inside-2 c =
-    let s = c.args in
-    let both = memories s.base s.near (contents s.d.now s.l.now) in
-    let own : inside_of (memory_at Data both) (width_of s.k) s.a ≡ c.inside.result = rw (← c.width.ensures.0) (sym c.inside.ensures) in
-    let near : inside_of (memory_at Local both) (width_of s.k) s.a ≡ c.inside-2.result = rw (← c.width-2.ensures.0) (sym c.inside-2.ensures) in
-    near ∙ c.if-inside-2.true
-
 pub returns-then-inside-2 : goal.returns-then-inside-2
 returns-then-inside-2 c =
     let s = c.args in
@@ -42,11 +27,3 @@ returns-then-inside-2 c =
       sym (in_local both (width_of s.k) s.a e (near ∙ c.if-inside-2.true)),
       ap (contents s.d.now) c.put_at-then-inside-2.ensures ∙ sym (store_local both s.a s.k s.x e),
     )
-
-pub returns : goal.returns
-returns c =
-    let s = c.args in
-    let both = memories s.base s.near (contents s.d.now s.l.now) in
-    let own : inside_of (memory_at Data both) (width_of s.k) s.a ≡ c.inside.result = rw (← c.width.ensures.0) (sym c.inside.ensures) in
-    let near : inside_of (memory_at Local both) (width_of s.k) s.a ≡ c.inside-2.result = rw (← c.width-2.ensures.0) (sym c.inside-2.ensures) in
-    (sym (in_neither both (width_of s.k) s.a ((own ∙ c.if-inside.false)) (near ∙ c.if-inside-2.false)), refl)

@@ -1,7 +1,6 @@
 use mathlib.Core.Path.{sym, ◌∙◌}
 use Prim.Native.Nat.{◌<◌}
 use native.Mathlib.Omega.{arith}
-use lib.ListN.{length-set}
 use Rattle.definition.specs.Calls.{budget_limit}
 use Rattle.memory.specs.Memories.{contents}
 use Rattle.capi_group.proofs.Told.{two_words, run_told, run_size, run_same}
@@ -17,12 +16,6 @@ returns-then-not-is_group c =
       rw (two_words a.out.now 0 0 c.if-out-ne2.false)
           (run_size a.state.now a.kernel.now a.vector.now (contents a.bytes.now a.local.now) a.out.now a.budget c.if-out-ne2.false (sym c.is_group.ensures ∙ c.if-not-is_group.true)),
     )
-
-pub run_state-end-requires : goal.run_state-end-requires
-run_state-end-requires c = sym c.is_group.ensures ∙ c.if-not-is_group.false
-
-pub bounds-out-1-2 : goal.bounds-out-1-2
-bounds-out-1-2 c = omega (arith, c.if-out-ne2.false, length-set c.args.out.now 0 c.run_state-end.result.steps)
 
 pub returns : goal.returns
 returns c =

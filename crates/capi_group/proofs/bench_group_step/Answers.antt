@@ -13,9 +13,6 @@ returns-then-not-is_group c =
     rw (one_word a.stopped.now 0 c.if-stopped-ne1.false)
     (step_size a.state.now a.kernel.now a.vector.now (contents a.bytes.now a.local.now) a.stopped.now c.if-stopped-ne1.false (sym c.is_group.ensures ∙ c.if-not-is_group.true))
 
-pub run_state-end-requires : goal.run_state-end-requires
-run_state-end-requires c = sym c.is_group.ensures ∙ c.if-not-is_group.false
-
 pub returns : goal.returns
 returns c =
     let a = c.args in

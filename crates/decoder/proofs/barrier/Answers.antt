@@ -1,18 +1,9 @@
 use mathlib.Core.Path.{◌∙◌}
-use borrow.Author.Rules.{rules}
 use Rattle.isa.specs.Fields.{fields_of}
 use Rattle.isa.specs.Ventus.{barrier_word}
 use Rattle.isa.specs.Kinds.{row_of}
 use Rattle.isa.proofs.Tables.{fixed_two}
 use Rattle.decoder.proofs.barrier.Goals as goal
-
-pub overflow_add-rest : goal.overflow_add-rest
-unfolding row_of barrier_word
-overflow_add-rest c = search rules
-
-pub fixed-requires : goal.fixed-requires
-unfolding row_of barrier_word
-fixed-requires c = search rules
 
 pub returns : goal.returns
 unfolding row_of barrier_word

@@ -1,37 +1,12 @@
 use Prim.Native.Nat.{◌%◌}
 use mathlib.Core.List.{[], ◌∷◌}
 use native.Mathlib.Omega.{arith}
-use borrow.Author.Rules.{rules}
 use Rattle.isa.specs.Fields.{fields_of}
 use Rattle.isa.specs.Decode.{opcodes, decode_of}
 use Rattle.isa.specs.Kinds.{row_of}
 use Rattle.isa.proofs.Tables.{range_out}
 use Rattle.decoder.proofs.Codes.{apart}
 use Rattle.decoder.proofs.by_opcode.Goals as goal
-
-pub jalr-requires : goal.jalr-requires
-unfolding row_of decode_of
-jalr-requires c = search rules
-
-pub load-requires : goal.load-requires
-unfolding row_of decode_of
-load-requires c = search rules
-
-pub store-requires : goal.store-requires
-unfolding row_of decode_of
-store-requires c = search rules
-
-pub fence-requires : goal.fence-requires
-unfolding row_of decode_of
-fence-requires c = search rules
-
-pub warp_word-requires : goal.warp_word-requires
-unfolding row_of decode_of
-warp_word-requires c = search rules
-
-pub private-requires : goal.private-requires
-unfolding row_of decode_of
-private-requires c = search rules
 
 pub returns-in-55 : goal.returns-in-55
 unfolding row_of decode_of

@@ -1,11 +1,6 @@
-use borrow.Author.Rules.{rules}
 use Rattle.isa.specs.Scalar.{jalr_word}
 use Rattle.isa.specs.Kinds.{row_of}
 use Rattle.decoder.proofs.jalr.Goals as goal
-
-pub fixed-requires : goal.fixed-requires
-unfolding row_of jalr_word
-fixed-requires c = search rules
 
 pub returns : goal.returns
 unfolding row_of jalr_word

@@ -1,69 +1,10 @@
 use mathlib.Core.Path.{◌∙◌}
-use mathlib.Core.List.{[], ◌∷◌, ◌++◌}
 use native.Mathlib.Omega.{arith}
-use borrow.Author.Rules.{rules}
-use Rattle.answer.proofs.Matches.{not_one}
 use Rattle.isa.specs.Ventus.{splits_word, lane_access_word}
 use Rattle.isa.specs.Decode.{decode_of}
 use Rattle.isa.specs.Kinds.{cond_of, load_op_of, lane_store_op_of, row_of}
-use Rattle.decoder.proofs.Codes.{eight, codes, no_row, apart}
+use Rattle.decoder.proofs.Codes.{codes}
 use Rattle.decoder.proofs.lane_row.Goals as goal
-
-pub index-requires : goal.index-requires
-unfolding row_of decode_of splits_word cond_of lane_access_word load_op_of lane_store_op_of
-index-requires c = omega arith
-
-pub vector-requires : goal.vector-requires
-unfolding row_of decode_of splits_word cond_of lane_access_word load_op_of lane_store_op_of
-vector-requires c = (codes (omega arith) c.index.ensures c.in-696.is).0
-
-pub vector-requires-in-697 : goal.vector-requires-in-697
-unfolding row_of decode_of splits_word cond_of lane_access_word load_op_of lane_store_op_of
-vector-requires-in-697 c = (codes (omega arith) c.index.ensures c.in-697.is).0
-
-pub vector-requires-in-698 : goal.vector-requires-in-698
-unfolding row_of decode_of splits_word cond_of lane_access_word load_op_of lane_store_op_of
-vector-requires-in-698 c = (codes (omega arith) c.index.ensures c.in-698.is).0
-
-pub vector-requires-in-699 : goal.vector-requires-in-699
-unfolding row_of decode_of splits_word cond_of lane_access_word load_op_of lane_store_op_of
-vector-requires-in-699 c = (codes (omega arith) c.index.ensures c.in-699.is).0
-
-pub vector-requires-in-700 : goal.vector-requires-in-700
-unfolding row_of decode_of splits_word cond_of lane_access_word load_op_of lane_store_op_of
-vector-requires-in-700 c = (codes (omega arith) c.index.ensures c.in-700.is).0
-
-pub vector-requires-in-701 : goal.vector-requires-in-701
-unfolding row_of decode_of splits_word cond_of lane_access_word load_op_of lane_store_op_of
-vector-requires-in-701 c = (codes (omega arith) c.index.ensures c.in-701.is).0
-
-pub vector-requires-in-702 : goal.vector-requires-in-702
-unfolding row_of decode_of splits_word cond_of lane_access_word load_op_of lane_store_op_of
-vector-requires-in-702 c = (codes (omega arith) c.index.ensures c.in-702.is).0
-
-pub vector-requires-in-703 : goal.vector-requires-in-703
-unfolding row_of decode_of splits_word cond_of lane_access_word load_op_of lane_store_op_of
-vector-requires-in-703 c = (codes (omega arith) c.index.ensures c.in-703.is).0
-
-pub join-requires : goal.join-requires
-unfolding row_of decode_of splits_word cond_of lane_access_word load_op_of lane_store_op_of
-join-requires c = search rules
-
-pub by_opcode-requires : goal.by_opcode-requires
-unfolding row_of decode_of splits_word cond_of lane_access_word load_op_of lane_store_op_of
-by_opcode-requires c =
-    let before = apart (0b0110011 ∷ 0b0010011 ∷ 0b1100011 ∷ 0b1110011 ∷ []) c.requires in
-    let other = no_row (eight 0b1010111 ++ eight 0b1011011 ++ eight 0b1111011) (omega arith) c.index.ensures c.in_default.in_default-own.rest in
-    not_one (Unit {0}) _ (0b0110011 ∷ 0b0010011 ∷ 0b1100011 ∷ 0b1110011 ∷ 0b1010111 ∷ 0b1011011 ∷ 0b1111011 ∷ []) (
-      (
-        (
-          ((((tt, before 0b0110011 tt), before 0b0010011 tt), before 0b1100011 tt), before 0b1110011 tt),
-          other 0b1010111 tt,
-        ),
-        other 0b1011011 tt,
-      ),
-      other 0b1111011 tt,
-    )
 
 pub returns-in-696 : goal.returns-in-696
 unfolding row_of decode_of splits_word cond_of lane_access_word load_op_of lane_store_op_of
@@ -160,7 +101,3 @@ returns-in-990 c = let e = codes (omega arith) c.index.ensures c.in-990.is in si
 pub returns-in-991 : goal.returns-in-991
 unfolding row_of decode_of splits_word cond_of lane_access_word load_op_of lane_store_op_of
 returns-in-991 c = let e = codes (omega arith) c.index.ensures c.in-991.is in simp (e.0, e.1)
-
-pub returns-in_default : goal.returns-in_default
-unfolding row_of decode_of splits_word cond_of lane_access_word load_op_of lane_store_op_of
-returns-in_default c = c.by_opcode.ensures

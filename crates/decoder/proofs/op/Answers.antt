@@ -11,10 +11,6 @@ use Rattle.isa.proofs.Tables.{range_out}
 use Rattle.decoder.proofs.Codes.{eight, codes, no_row}
 use Rattle.decoder.proofs.op.Goals as goal
 
-pub index-requires : goal.index-requires
-unfolding row_of op_word by_funct3
-index-requires c = omega arith
-
 pub returns-in-0 : goal.returns-in-0
 unfolding row_of op_word by_funct3
 returns-in-0 c = let e = codes (omega arith) c.index.ensures c.in-0.is in simp (e.0, e.1)

@@ -1,19 +1,10 @@
 use Prim.Native.Nat.{◌+◌}
 use mathlib.Core.Path.{◌∙◌, ap}
-use borrow.Author.Rules.{rules}
 use Rattle.isa.specs.Fields.{fields_of, imm_i}
 use Rattle.isa.specs.Table.{fixed}
 use Rattle.isa.specs.Ventus.{prefix_word}
 use Rattle.isa.proofs.Tables.{fixed_two}
 use Rattle.decoder.proofs.prefix.Goals as goal
-
-pub overflow_add-rest : goal.overflow_add-rest
-unfolding prefix_word
-overflow_add-rest c = search rules
-
-pub fixed-requires : goal.fixed-requires
-unfolding prefix_word
-fixed-requires c = search rules
 
 pub returns : goal.returns
 unfolding prefix_word

@@ -24,10 +24,6 @@ returns-in-0-to-2 c =
     rw (eq-eqb (f.funct7 / 64) 0 c.if-w-ne0.false)
     (range_in pload_as f f.funct3 (as_words pstore_as vstores) loads (3 ∷ []) 0 6 (omega arith) (omega arith) c.in-0-to-2.in_default-own.rest L.Hu tt)
 
-pub returns-in_default : goal.returns-in_default
-unfolding row_of private_word load_op_of lane_store_op_of
-returns-in_default c = absurd (omega arith)
-
 pub returns-in-3 : goal.returns-in-3
 unfolding row_of private_word load_op_of lane_store_op_of
 returns-in-3 c =

@@ -1,32 +1,10 @@
 use mathlib.Core.Path.{◌∙◌}
-use mathlib.Core.List.{[], ◌∷◌, ◌++◌}
 use native.Mathlib.Omega.{arith}
-use borrow.Author.Rules.{rules}
-use Rattle.answer.proofs.Matches.{not_one}
 use Rattle.isa.specs.Scalar.{branch_word, op_imm_word, csr_word}
 use Rattle.isa.specs.Decode.{decode_of}
 use Rattle.isa.specs.Kinds.{cond_of, csr_op_of, any_csr_word, row_of}
-use Rattle.decoder.proofs.Codes.{eight, codes, no_row}
+use Rattle.decoder.proofs.Codes.{codes}
 use Rattle.decoder.proofs.scalar_row.Goals as goal
-
-pub index-requires : goal.index-requires
-unfolding row_of decode_of op_imm_word branch_word cond_of csr_word any_csr_word csr_op_of
-index-requires c = omega arith
-
-pub shift-requires : goal.shift-requires
-unfolding row_of decode_of op_imm_word branch_word cond_of csr_word any_csr_word csr_op_of
-shift-requires c = search rules
-
-pub shift-requires-in-157 : goal.shift-requires-in-157
-unfolding row_of decode_of op_imm_word branch_word cond_of csr_word any_csr_word csr_op_of
-shift-requires-in-157 c = search rules
-
-pub lane_row-requires : goal.lane_row-requires
-unfolding row_of decode_of op_imm_word branch_word cond_of csr_word any_csr_word csr_op_of
-lane_row-requires c =
-    let other = no_row (eight 0b0010011 ++ eight 0b1100011 ++ eight 0b1110011) (omega arith) c.index.ensures c.in_default.in_default-own.rest in
-    not_one (Unit {0}) _ (0b0110011 ∷ 0b0010011 ∷ 0b1100011 ∷ 0b1110011 ∷ [])
-    ((((tt, c.requires), other 0b0010011 tt), other 0b1100011 tt), other 0b1110011 tt)
 
 pub returns-in-152 : goal.returns-in-152
 unfolding row_of decode_of op_imm_word branch_word cond_of csr_word any_csr_word csr_op_of
@@ -123,7 +101,3 @@ returns-in-926 c = let e = codes (omega arith) c.index.ensures c.in-926.is in si
 pub returns-in-927 : goal.returns-in-927
 unfolding row_of decode_of op_imm_word branch_word cond_of csr_word any_csr_word csr_op_of
 returns-in-927 c = let e = codes (omega arith) c.index.ensures c.in-927.is in simp (e.0, e.1)
-
-pub returns-in_default : goal.returns-in_default
-unfolding row_of decode_of op_imm_word branch_word cond_of csr_word any_csr_word csr_op_of
-returns-in_default c = c.lane_row.ensures

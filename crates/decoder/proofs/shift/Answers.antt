@@ -11,10 +11,6 @@ use Rattle.isa.proofs.Tables.{range_out}
 use Rattle.decoder.proofs.Codes.{codes}
 use Rattle.decoder.proofs.shift.Goals as goal
 
-pub index-requires : goal.index-requires
-unfolding row_of shift_word
-index-requires c = omega arith
-
 pub returns-in-1 : goal.returns-in-1
 unfolding row_of shift_word
 returns-in-1 c = let e = codes (omega arith) c.index.ensures c.in-1.is in simp (e.0, e.1)

@@ -1,6 +1,5 @@
 use mathlib.Core.Path.{◌∙◌}
 use mathlib.Core.List.{[]}
-use borrow.Author.Rules.{rules}
 use Rattle.isa.specs.declared.Instr.TheVariants.{Refused}
 use Rattle.isa.specs.Fields.{fields_of}
 use Rattle.isa.specs.Table.{on}
@@ -8,14 +7,6 @@ use Rattle.isa.specs.Ventus.{stops, stop_word}
 use Rattle.isa.specs.Kinds.{row_of}
 use Rattle.isa.proofs.Laws.{past}
 use Rattle.decoder.proofs.stop.Goals as goal
-
-pub end_prg-requires : goal.end_prg-requires
-unfolding row_of stop_word
-end_prg-requires c = search rules
-
-pub barrier-requires : goal.barrier-requires
-unfolding row_of stop_word
-barrier-requires c = search rules
 
 pub returns-in-0 : goal.returns-in-0
 unfolding row_of stop_word

@@ -1,6 +1,5 @@
 use mathlib.Core.Path.{◌∙◌, refl}
 use mathlib.Core.List.{[]}
-use borrow.Author.Rules.{rules}
 use Rattle.isa.specs.declared.Instr.TheVariants as I
 use Rattle.isa.specs.Fields.{fields_of}
 use Rattle.isa.specs.Table.{on}
@@ -8,18 +7,6 @@ use Rattle.isa.specs.Ventus.{warp_words, warp_word}
 use Rattle.isa.specs.Kinds.{row_of}
 use Rattle.isa.proofs.Laws.{past}
 use Rattle.decoder.proofs.warp_word.Goals as goal
-
-pub stop-requires : goal.stop-requires
-unfolding row_of warp_word
-stop-requires c = search rules
-
-pub prefix-requires : goal.prefix-requires
-unfolding row_of warp_word
-prefix-requires c = search rules
-
-pub prefix-requires-in-3 : goal.prefix-requires-in-3
-unfolding row_of warp_word
-prefix-requires-in-3 c = search rules
 
 pub returns-in-4 : goal.returns-in-4
 unfolding row_of warp_word

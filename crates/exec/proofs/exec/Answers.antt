@@ -14,7 +14,6 @@ use Rattle.isa.specs.Table.{on}
 use Rattle.isa.specs.declared.Instr.TheVariants as I
 use Rattle.isa.specs.declared.Instr.TheVariants.{Refused}
 use Rattle.layout.specs.Words.{warp_of}
-use borrow.Author.Rules.{rules}
 use borrow.Author.Tests.{lt-leb}
 use mathlib.Core.List.{◌++◌}
 use mathlib.Core.Path.{ap, refl, sym}
@@ -24,53 +23,9 @@ pub vector-requires : goal.vector-requires
 unfolding row_of effect_of refusals_of warp_of
 vector-requires c = let a = c.args in (ready_lanes a.g.now a.h.now a.x.now a.s.now a.v.now (contents a.d.now a.l.now) c.requires)
 
-pub shape_of-v-then-kind-ge-VECTOR : goal.shape_of-v-then-kind-ge-VECTOR
-unfolding row_of effect_of refusals_of warp_of
-shape_of-v-then-kind-ge-VECTOR c = search rules
-
 pub returns-then-kind-ge-VECTOR : goal.returns-then-kind-ge-VECTOR
 unfolding row_of effect_of refusals_of warp_of
 returns-then-kind-ge-VECTOR c = let a = c.args in told (vector_is a.kind a.w c.if-kind-ge-VECTOR.true) (c.vector.ensures a.s.now (contents a.d.now a.l.now) c.requires.lent.room)
-
-pub imm_u-requires : goal.imm_u-requires
-unfolding row_of effect_of refusals_of warp_of
-imm_u-requires c = search rules
-
-pub overflow_mul-imm_u : goal.overflow_mul-imm_u
-unfolding row_of effect_of refusals_of warp_of
-overflow_mul-imm_u c = search rules
-
-pub gives-requires : goal.gives-requires
-unfolding row_of effect_of refusals_of warp_of
-gives-requires c = c.requires.lent.long
-
-pub auipc-requires : goal.auipc-requires
-unfolding row_of effect_of refusals_of warp_of
-auipc-requires c = c.requires.lent.long
-
-pub jal-requires : goal.jal-requires
-unfolding row_of effect_of refusals_of warp_of
-jal-requires c = c.requires.lent.long
-
-pub jalr-requires : goal.jalr-requires
-unfolding row_of effect_of refusals_of warp_of
-jalr-requires c = c.requires.lent.long
-
-pub branch-h-requires : goal.branch-h-requires
-unfolding row_of effect_of refusals_of warp_of
-branch-h-requires c = c.requires.lent.long
-
-pub load-requires : goal.load-requires
-unfolding row_of effect_of refusals_of warp_of
-load-requires c = (c.requires.lent.long, c.requires.memories_ok)
-
-pub store-requires : goal.store-requires
-unfolding row_of effect_of refusals_of warp_of
-store-requires c = (c.requires.lent.long, c.requires.memories_ok)
-
-pub on-requires : goal.on-requires
-unfolding row_of effect_of refusals_of warp_of
-on-requires c = c.requires.lent.long
 
 pub csr-requires : goal.csr-requires
 unfolding row_of effect_of refusals_of warp_of
@@ -100,25 +55,9 @@ pub returns-in-5 : goal.returns-in-5
 unfolding row_of effect_of refusals_of warp_of
 returns-in-5 c = let a = c.args in told (branch_is a.kind a.w c.in-5.is refl refl refl refl) (c.branch-h.ensures a.g.now a.s.now a.v.now (contents a.d.now a.l.now) c.requires.lent.room)
 
-pub shape_of-d-in-6 : goal.shape_of-d-in-6
-unfolding row_of effect_of refusals_of warp_of
-shape_of-d-in-6 c = search rules
-
-pub shape_of-l-in-6 : goal.shape_of-l-in-6
-unfolding row_of effect_of refusals_of warp_of
-shape_of-l-in-6 c = search rules
-
 pub returns-in-6 : goal.returns-in-6
 unfolding row_of effect_of refusals_of warp_of
 returns-in-6 c = let a = c.args in told (load_is a.kind a.w c.in-6.is refl refl refl refl) (c.load.ensures a.s.now a.v.now c.requires.lent.room)
-
-pub shape_of-d-in-7 : goal.shape_of-d-in-7
-unfolding row_of effect_of refusals_of warp_of
-shape_of-d-in-7 c = search rules
-
-pub shape_of-l-in-7 : goal.shape_of-l-in-7
-unfolding row_of effect_of refusals_of warp_of
-shape_of-l-in-7 c = search rules
 
 pub returns-in-7 : goal.returns-in-7
 unfolding row_of effect_of refusals_of warp_of
@@ -131,19 +70,3 @@ returns-in-8 c = let a = c.args in told (fence_is a.kind a.w c.in-8.is refl refl
 pub returns-in-9 : goal.returns-in-9
 unfolding row_of effect_of refusals_of warp_of
 returns-in-9 c = let a = c.args in told (csr_is a.kind a.w c.in-9.is) (c.csr.ensures a.s.now a.v.now (contents a.d.now a.l.now) c.requires.lent.room)
-
-pub shape_of-v : goal.shape_of-v
-unfolding row_of effect_of refusals_of warp_of
-shape_of-v c = search rules
-
-pub shape_of-d-in_default : goal.shape_of-d-in_default
-unfolding row_of effect_of refusals_of warp_of
-shape_of-d-in_default c = search rules
-
-pub shape_of-l-in_default : goal.shape_of-l-in_default
-unfolding row_of effect_of refusals_of warp_of
-shape_of-l-in_default c = search rules
-
-pub returns-in_default : goal.returns-in_default
-unfolding row_of effect_of refusals_of warp_of
-returns-in_default c = c.lane_word.ensures

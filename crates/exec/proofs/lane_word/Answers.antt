@@ -6,90 +6,36 @@ use Rattle.isa.proofs.Words.{barrier_is, endprg_is, join_is, pload_is, pstore_is
 use Rattle.isa.specs.Fields.{fields_of, imm_i}
 use Rattle.isa.specs.Prefix.{reg_ext, reg_ext_i}
 use Rattle.isa.specs.declared.Instr.TheVariants as I
-use Rattle.isa.specs.Kinds.{lane_groups, of_immediates, of_registers}
-use Rattle.isa.proofs.Laws.{past}
-use Rattle.isa.specs.Table.{on}
-use Rattle.isa.specs.declared.Instr.TheVariants.{Refused}
 use Rattle.isa.specs.declared.Space.TheVariants.{Plain, Private}
 use Rattle.layout.proofs.Words.{lent_deep, lent_room}
 use Rattle.definition.specs.Exec.{effect_of}
 use Rattle.definition.specs.Refuse.{refusals_of}
-use borrow.Author.Rules.{rules}
-use mathlib.Core.List.{◌++◌}
-use mathlib.Core.Path.{◌∙◌, refl, sym}
+use mathlib.Core.Path.{refl}
 use Rattle.exec.proofs.lane_word.Goals as goal
-
-pub bounds-h-2 : goal.bounds-h-2
-unfolding effect_of refusals_of
-bounds-h-2 c = search rules
 
 pub vbranch-requires : goal.vbranch-requires
 unfolding effect_of refusals_of
 vbranch-requires c = let a = c.args in ((ready_lanes a.g.now a.h.now a.x.now a.s.now a.v.now (contents a.d.now a.l.now) c.requires.0), c.requires.0.lent.room, lent_room a.g.now a.h.now a.x.now a.s.now c.requires.0.lent)
 
-pub setrpc-requires : goal.setrpc-requires
-unfolding effect_of refusals_of
-setrpc-requires c = c.requires.0.lent.long
-
-pub imm_i-requires : goal.imm_i-requires
-unfolding effect_of refusals_of
-imm_i-requires c = search rules
-
 pub vload-requires : goal.vload-requires
 unfolding effect_of refusals_of
 vload-requires c = let a = c.args in ((ready_lanes a.g.now a.h.now a.x.now a.s.now a.v.now (contents a.d.now a.l.now) c.requires.0).at, c.requires.0.memories_ok, c.imm_i.ensures.1)
-
-pub on_if-requires : goal.on_if-requires
-unfolding effect_of refusals_of
-on_if-requires c = search rules
-
-pub imm_s-requires : goal.imm_s-requires
-unfolding effect_of refusals_of
-imm_s-requires c = search rules
 
 pub vstore-requires : goal.vstore-requires
 unfolding effect_of refusals_of
 vstore-requires c = let a = c.args in ((ready_lanes a.g.now a.h.now a.x.now a.s.now a.v.now (contents a.d.now a.l.now) c.requires.0).at, c.requires.0.memories_ok, c.imm_s.ensures.1)
 
-pub on_if-requires-in-13 : goal.on_if-requires-in-13
-unfolding effect_of refusals_of
-on_if-requires-in-13 c = search rules
-
-pub private_load_offset-requires : goal.private_load_offset-requires
-unfolding effect_of refusals_of
-private_load_offset-requires c = search rules
-
 pub vload-requires-in-14 : goal.vload-requires-in-14
 unfolding effect_of refusals_of
 vload-requires-in-14 c = let a = c.args in ((ready_lanes a.g.now a.h.now a.x.now a.s.now a.v.now (contents a.d.now a.l.now) c.requires.0).at, c.requires.0.memories_ok, c.private_load_offset.ensures.1)
-
-pub on_if-requires-in-14 : goal.on_if-requires-in-14
-unfolding effect_of refusals_of
-on_if-requires-in-14 c = search rules
-
-pub private_store_offset-requires : goal.private_store_offset-requires
-unfolding effect_of refusals_of
-private_store_offset-requires c = search rules
 
 pub vstore-requires-in-15 : goal.vstore-requires-in-15
 unfolding effect_of refusals_of
 vstore-requires-in-15 c = let a = c.args in ((ready_lanes a.g.now a.h.now a.x.now a.s.now a.v.now (contents a.d.now a.l.now) c.requires.0).at, c.requires.0.memories_ok, c.private_store_offset.ensures.1)
 
-pub on_if-requires-in-15 : goal.on_if-requires-in-15
-unfolding effect_of refusals_of
-on_if-requires-in-15 c = search rules
-
 pub join-requires : goal.join-requires
 unfolding effect_of refusals_of
 join-requires c = let a = c.args in (c.requires.0.lent.long, c.requires.0.lent.room, lent_deep a.g.now a.h.now a.x.now a.s.now c.requires.0.lent)
-
-pub end-requires : goal.end-requires
-unfolding effect_of refusals_of
-end-requires c = c.requires.0.lent.long
-
-pub barrier-requires : goal.barrier-requires
-unfolding effect_of refusals_of
-barrier-requires c = c.requires.0.lent.long
 
 pub vmove_xs-requires : goal.vmove_xs-requires
 unfolding effect_of refusals_of
@@ -107,25 +53,9 @@ pub vmove-requires : goal.vmove-requires
 unfolding effect_of refusals_of
 vmove-requires c = let a = c.args in (ready_lanes a.g.now a.h.now a.x.now a.s.now a.v.now (contents a.d.now a.l.now) c.requires.0)
 
-pub pend-requires : goal.pend-requires
-unfolding effect_of refusals_of
-pend-requires c = c.requires.0.lent.long
-
-pub pend-requires-in-51 : goal.pend-requires-in-51
-unfolding effect_of refusals_of
-pend-requires-in-51 c = c.requires.0.lent.long
-
 pub vmerge-requires : goal.vmerge-requires
 unfolding effect_of refusals_of
 vmerge-requires c = let a = c.args in (ready_lanes a.g.now a.h.now a.x.now a.s.now a.v.now (contents a.d.now a.l.now) c.requires.0)
-
-pub op_reg-requires : goal.op_reg-requires
-unfolding effect_of refusals_of
-op_reg-requires c = let a = c.args in let f = fields_of a.w in (c.requires.0.lent.long, c.requires.1 ∙ sym (past (on f) Refused _ lane_groups (of_registers ++ of_immediates) c.in_default.in_default-own.rest))
-
-pub shape_of-v-in-10 : goal.shape_of-v-in-10
-unfolding effect_of refusals_of
-shape_of-v-in-10 c = search rules
 
 pub returns-in-10 : goal.returns-in-10
 unfolding effect_of refusals_of
@@ -135,65 +65,17 @@ pub returns-in-11 : goal.returns-in-11
 unfolding effect_of refusals_of
 returns-in-11 c = let a = c.args in told (setrpc_is a.kind a.w c.in-11.is refl refl refl) (c.setrpc.ensures a.g.now a.s.now a.v.now (contents a.d.now a.l.now) c.requires.0.lent.room)
 
-pub shape_of-v-in-12 : goal.shape_of-v-in-12
-unfolding effect_of refusals_of
-shape_of-v-in-12 c = search rules
-
-pub shape_of-d-in-12 : goal.shape_of-d-in-12
-unfolding effect_of refusals_of
-shape_of-d-in-12 c = search rules
-
-pub shape_of-l-in-12 : goal.shape_of-l-in-12
-unfolding effect_of refusals_of
-shape_of-l-in-12 c = search rules
-
 pub returns-in-12 : goal.returns-in-12
 unfolding effect_of refusals_of
 returns-in-12 c = let a = c.args in told (vload_is a.kind a.w c.in-12.is refl refl refl c.imm_i.ensures.0) (lane_load_arm _ Plain _ a.w _ a.g.now a.h.now a.x.now a.s.now a.v.now (contents a.d.now a.l.now) _ c.requires.0.lent.long c.requires.0.lent.room c.on_if.ensures _ c.vload.ensures)
-
-pub shape_of-v-in-13 : goal.shape_of-v-in-13
-unfolding effect_of refusals_of
-shape_of-v-in-13 c = search rules
-
-pub shape_of-d-in-13 : goal.shape_of-d-in-13
-unfolding effect_of refusals_of
-shape_of-d-in-13 c = search rules
-
-pub shape_of-l-in-13 : goal.shape_of-l-in-13
-unfolding effect_of refusals_of
-shape_of-l-in-13 c = search rules
 
 pub returns-in-13 : goal.returns-in-13
 unfolding effect_of refusals_of
 returns-in-13 c = let a = c.args in told (vstore_is a.kind a.w c.in-13.is refl refl refl c.imm_s.ensures.0) (lane_store_arm _ Plain _ a.w _ a.g.now a.h.now a.x.now a.s.now a.v.now (contents a.d.now a.l.now) _ c.requires.0.lent.long c.requires.0.lent.room c.on_if-in-13.ensures _ c.vstore.ensures)
 
-pub shape_of-v-in-14 : goal.shape_of-v-in-14
-unfolding effect_of refusals_of
-shape_of-v-in-14 c = search rules
-
-pub shape_of-d-in-14 : goal.shape_of-d-in-14
-unfolding effect_of refusals_of
-shape_of-d-in-14 c = search rules
-
-pub shape_of-l-in-14 : goal.shape_of-l-in-14
-unfolding effect_of refusals_of
-shape_of-l-in-14 c = search rules
-
 pub returns-in-14 : goal.returns-in-14
 unfolding effect_of refusals_of
 returns-in-14 c = let a = c.args in told (pload_is a.kind a.w c.in-14.is refl refl refl c.private_load_offset.ensures.0) (lane_load_arm _ Private _ a.w _ a.g.now a.h.now a.x.now a.s.now a.v.now (contents a.d.now a.l.now) _ c.requires.0.lent.long c.requires.0.lent.room c.on_if-in-14.ensures _ c.vload-in-14.ensures)
-
-pub shape_of-v-in-15 : goal.shape_of-v-in-15
-unfolding effect_of refusals_of
-shape_of-v-in-15 c = search rules
-
-pub shape_of-d-in-15 : goal.shape_of-d-in-15
-unfolding effect_of refusals_of
-shape_of-d-in-15 c = search rules
-
-pub shape_of-l-in-15 : goal.shape_of-l-in-15
-unfolding effect_of refusals_of
-shape_of-l-in-15 c = search rules
 
 pub returns-in-15 : goal.returns-in-15
 unfolding effect_of refusals_of
@@ -211,33 +93,17 @@ pub returns-in-45 : goal.returns-in-45
 unfolding effect_of refusals_of
 returns-in-45 c = let a = c.args in told (barrier_is a.kind a.w c.in-45.is refl) (c.barrier.ensures a.g.now a.x.now a.s.now a.v.now (contents a.d.now a.l.now) c.requires.0.lent.room)
 
-pub shape_of-v-in-46 : goal.shape_of-v-in-46
-unfolding effect_of refusals_of
-shape_of-v-in-46 c = search rules
-
 pub returns-in-46 : goal.returns-in-46
 unfolding effect_of refusals_of
 returns-in-46 c = let a = c.args in told (vmove_xs_is a.kind a.w c.in-46.is refl refl) (c.vmove_xs.ensures a.s.now (contents a.d.now a.l.now) c.requires.0.lent.room)
-
-pub shape_of-v-in-47 : goal.shape_of-v-in-47
-unfolding effect_of refusals_of
-shape_of-v-in-47 c = search rules
 
 pub returns-in-47 : goal.returns-in-47
 unfolding effect_of refusals_of
 returns-in-47 c = let a = c.args in told (vmove_sx_is a.kind a.w c.in-47.is refl refl) (c.vmove_sx.ensures a.s.now (contents a.d.now a.l.now) c.requires.0.lent.room)
 
-pub shape_of-v-in-48 : goal.shape_of-v-in-48
-unfolding effect_of refusals_of
-shape_of-v-in-48 c = search rules
-
 pub returns-in-48 : goal.returns-in-48
 unfolding effect_of refusals_of
 returns-in-48 c = let a = c.args in told (vid_is a.kind a.w c.in-48.is refl refl) (c.vid.ensures a.x.now a.s.now (contents a.d.now a.l.now) c.requires.0.lent.room)
-
-pub shape_of-v-in-49 : goal.shape_of-v-in-49
-unfolding effect_of refusals_of
-shape_of-v-in-49 c = search rules
 
 pub returns-in-49 : goal.returns-in-49
 unfolding effect_of refusals_of
@@ -251,14 +117,6 @@ pub returns-in-51 : goal.returns-in-51
 unfolding effect_of refusals_of
 returns-in-51 c = let a = c.args in told (regexti_is a.kind a.w c.in-51.is refl) (pended (I.RegExtI (imm_i (fields_of a.w))) reg_ext_i (imm_i (fields_of a.w)) _ a.g.now a.h.now a.x.now a.s.now a.v.now (contents a.d.now a.l.now) _ c.pend-in-51.ensures.0 (c.pend-in-51.ensures.1 a.g.now a.x.now a.s.now c.requires.0.lent.room) refl refl)
 
-pub shape_of-v-in-52 : goal.shape_of-v-in-52
-unfolding effect_of refusals_of
-shape_of-v-in-52 c = search rules
-
 pub returns-in-52 : goal.returns-in-52
 unfolding effect_of refusals_of
 returns-in-52 c = let a = c.args in told (vmerge_is a.kind a.w c.in-52.is refl refl refl) (c.vmerge.ensures a.s.now (contents a.d.now a.l.now) c.requires.0.lent.room)
-
-pub returns-in_default : goal.returns-in_default
-unfolding effect_of refusals_of
-returns-in_default c = let a = c.args in c.op_reg.ensures a.g.now a.s.now a.v.now (contents a.d.now a.l.now) c.requires.0.lent.room

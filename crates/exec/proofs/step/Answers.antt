@@ -31,9 +31,6 @@ returns-then-c-eq0 c =
     step_carried a.k.now a.g.now a.h.now a.x.now a.s.now a.v.now (contents a.d.now a.l.now) c.requires _ _ (c.fetch-f.ensures a.x.now a.s.now) c.if-code-ne0.false _ (c.use_up.ensures a.g.now a.x.now a.s.now c.requires.lent.room) _ _ _ _ _ _ _
     (own_is (prefix_in a.h.now) _ _ _ _ c.widened-wide.ensures c.if-refused-ne0.false c.kind.ensures) c.exec-c.ensures c.if-c-eq0.true
 
-pub put_prefix-requires : goal.put_prefix-requires
-put_prefix-requires c = c.exec-c.ensures.long
-
 pub returns : goal.returns
 returns c =
     let a = c.args in

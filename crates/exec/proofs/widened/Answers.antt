@@ -3,19 +3,11 @@ use mathlib.Core.Path.{subst}
 use native.Mathlib.Omega.{arith}
 use Rattle.isa.specs.Wide.{Judged}
 use Rattle.layout.specs.Words.{prefix_in}
-use Rattle.exec.proofs.Laws.{prefix_bits, widens_none, widens_not, widens_so}
+use Rattle.exec.proofs.Laws.{prefix_bits, widens_none, widens_so}
 use Rattle.exec.proofs.widened.Goals as goal
 
 pub returns-then-kind-eq0 : goal.returns-then-kind-eq0
 returns-then-kind-eq0 c = let a = c.args in rw c.plain-alone.ensures (widens_none (prefix_in a.h.now) a.w (omega arith) c.if-kind-eq0.true)
-
-pub takes-requires : goal.takes-requires
-takes-requires c = omega (arith, c.if-kind-eq0.false)
-
-pub returns-then-not-takes : goal.returns-then-not-takes
-returns-then-not-takes c =
-    let a = c.args in
-    widens_not (prefix_in a.h.now) a.w _ (subst (λ (t : Bool). Judged t (prefix_in a.h.now) a.w) c.if-not-takes.true c.takes.ensures)
 
 pub returns : goal.returns
 returns c =

@@ -1,10 +1,7 @@
-use mathlib.Core.Path.{refl, sym, ◌∙◌}
+use mathlib.Core.Path.{sym, ◌∙◌}
 use borrow.Author.Rules.{rules}
 use Rattle.formed.proofs.Formed.{open_stop, open_go, open_end}
 use Rattle.formed.proofs.chain_ok.Goals as goal
-
-pub loop-k-init : goal.loop-k-init
-loop-k-init c = (search rules, refl)
 
 pub returns-then-not-open_ok : goal.returns-then-not-open_ok
 returns-then-not-open_ok c =

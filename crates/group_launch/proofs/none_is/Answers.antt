@@ -1,24 +1,15 @@
-use Prim.Native.Nat.{ℕ}
-use mathlib.Core.Path.{◌≡◌, sym, ap, ◌∙◌, subst}
-use mathlib.Core.Bool.{true, not}
-use native.Mathlib.Nat.{le_antisymm}
+use mathlib.Core.Path.{sym, ap, ◌∙◌}
+use mathlib.Core.Bool.{not}
 use native.Mathlib.Omega.{arith}
 use borrow.Author.Tests.{eq-eqb, ne_eqb}
 use Rattle.lanes.proofs.Laws.{below_not, below_none, below_more}
-use Rattle.group_launch.specs.GroupLaunchCall.{none_is}
 use Rattle.group_launch.proofs.none_is.Goals as goal
 
 pub loop-i-init : goal.loop-i-init
 loop-i-init c = (omega arith, below_none _)
-
-pub code_at-requires : goal.code_at-requires
-code_at-requires c = omega (arith, c.loop-i-test.true, c.requires)
 
 pub returns-then-code_at-code : goal.returns-then-code_at-code
 returns-then-code_at-code c = sym (below_not _ _ c.loop-i.i c.loop-i-test.true (ap not (eq-eqb _ _ (sym c.code_at.ensures ∙ c.if-code_at-code.true))))
 
 pub loop-i-preserved : goal.loop-i-preserved
 loop-i-preserved c = (omega arith, below_more _ c.loop-i.i c.loop-i.invariant.1 (ap not (ne_eqb _ _ (λ e. c.if-code_at-code.false (c.code_at.ensures ∙ e)))))
-
-pub returns : goal.returns
-returns c = let a = c.args in sym (subst (λ (m : ℕ). none_is a.code m a.cards.now ≡ true) (le_antisymm c.loop-i.invariant.0 c.loop-i-test.false) c.loop-i.invariant.1)

@@ -1,13 +1,8 @@
-use Prim.Native.Nat.{ℕ}
-use mathlib.Core.Path.{◌≡◌, sym, subst}
-use mathlib.Core.Bool.{true}
-use native.Mathlib.Nat.{le_antisymm}
+use mathlib.Core.Path.{sym}
 use native.Mathlib.Omega.{arith}
 use borrow.Author.Rules.{rules}
 use borrow.Author.Tests.{le-leb, lt-leb}
-use Rattle.lanes.specs.Lanes.{all_below}
 use Rattle.lanes.proofs.Laws.{below_not, below_none, below_more}
-use Rattle.group_machine.specs.Held.{shallow_at}
 use Rattle.group_machine.proofs.shallow.Goals as goal
 
 pub loop-i-init : goal.loop-i-init
@@ -18,6 +13,3 @@ returns-then-w-gt-SPLITS c = sym (below_not _ _ c.loop-i.i (search rules) (lt-le
 
 pub loop-i-preserved : goal.loop-i-preserved
 loop-i-preserved c = (omega arith, below_more _ c.loop-i.i c.loop-i.invariant.1 (le-leb _ _ c.if-w-gt-SPLITS.false))
-
-pub returns : goal.returns
-returns c = sym (subst (λ (m : ℕ). all_below m (shallow_at c.args.ws) ≡ true) (le_antisymm c.loop-i.invariant.0 c.loop-i-test.false) c.loop-i.invariant.1)

@@ -21,7 +21,6 @@ returns-then-cards-gt-CARDS_BYTES c =
 
 pub returns-then-not-files_ok : goal.returns-then-not-files_ok
 returns-then-not-files_ok c =
-    let few : length c.args.cards.now ≤ 1600 = c.if-cards-gt-CARDS_BYTES.false in
     let a = c.args in
     let e = too_large a.cards.now a.kernel.now a.bytes.now a.local.now c.if-cards-gt-CARDS_BYTES.false (sym c.files_ok.ensures ∙ c.if-not-files_ok.true) in
     let p = puts_as (e ∙ ap code_line (sym c.cards_code.ensures)) c.put_code_line-then-not-files_ok.ensures.0 in
@@ -42,33 +41,16 @@ slice_bounds-words-end c =
 pub slice_bounds-print_launched-end : goal.slice_bounds-print_launched-end
 slice_bounds-print_launched-end c = sym (ap length c.put_words.ensures ∙ words_of_length _)
 
-pub slice_bounds-vector-end : goal.slice_bounds-vector-end
-slice_bounds-vector-end c =
-    let few : length c.args.cards.now ≤ 1600 = c.if-cards-gt-CARDS_BYTES.false in
-    omega (arith, few)
-
 pub slice_bounds-print_launched-end-2 : goal.slice_bounds-print_launched-end-2
 slice_bounds-print_launched-end-2 c =
-    let few : length c.args.cards.now ≤ 1600 = c.if-cards-gt-CARDS_BYTES.false in
-    prefix_long _ 262144 (omega (arith, few))
-
-pub slice_bounds-print_launched-end-3 : goal.slice_bounds-print_launched-end-3
-slice_bounds-print_launched-end-3 c =
-    let few : length c.args.cards.now ≤ 1600 = c.if-cards-gt-CARDS_BYTES.false in
-    prefix_long _ 7713 (omega (arith, few))
-
-pub print_launched-requires : goal.print_launched-requires
-print_launched-requires c =
-    let few : length c.args.cards.now ≤ 1600 = c.if-cards-gt-CARDS_BYTES.false in
-    (omega (arith, few), sym (prefix_long (1 + length c.args.cards.now / 50 * 241) 7713 (omega (arith, few))), c.requires)
+    prefix_long _ 262144 (omega (arith, c.if-cards-gt-CARDS_BYTES.false))
 
 pub returns : goal.returns
 returns c =
-    let few : length c.args.cards.now ≤ 1600 = c.if-cards-gt-CARDS_BYTES.false in
     let taken : (let a = c.args in group_files_ok a.kernel.now a.bytes.now a.local.now) ≡ true = sym c.files_ok.ensures ∙ c.if-not-files_ok.false in
     let a = c.args in
     let n : ℕ = length a.cards.now / 50 in
-    let f = files_taken a.cards.now a.kernel.now a.bytes.now a.local.now few taken in
+    let f = files_taken a.cards.now a.kernel.now a.bytes.now a.local.now c.if-cards-gt-CARDS_BYTES.false taken in
     let g = ap (λ (ws : List ℕ). launched_lines n a.cards.now ws (take (n * 8192) (replicate 262144 0)) (contents a.bytes.now a.local.now) (take (1 + n * 241) (replicate 7713 0))) (sym c.put_words.ensures) in
     let p = puts_as (f ∙ g) c.print_launched.ensures.0 in
     (counted p c.print_launched.ensures.1 c.requires, p)

@@ -1,13 +1,12 @@
-use mathlib.Core.Path.{refl, ap, ◌∙◌}
+use mathlib.Core.Path.{ap, ◌∙◌}
 use mathlib.Core.List.{List}
-use Prim.Native.Nat.{ℕ, ◌<◌}
-use native.Mathlib.Nat.{le_antisymm}
+use Prim.Native.Nat.{◌<◌}
 use native.Mathlib.Omega.{arith}
 use lib.ListN.{length, get_or, set}
 use Rattle.warp.specs.declared.Warp.{Warp}
 use Rattle.group_machine.specs.Held.{no_warp}
 use Rattle.group_machine.specs.declared.Group.{Group}
-use Rattle.group_row.specs.Row.{room_of, held_of, overlaid}
+use Rattle.group_row.specs.Row.{room_of, held_of}
 use Rattle.group_row.proofs.Rows.{no_warps, no_warps_lem, room_in, overlay_on}
 use Rattle.group_row.proofs.gather.Goals as goal
 
@@ -22,8 +21,3 @@ loop-i-preserved c =
           ∙ ap (λ (z : Group). held_of (set z.warps i (get_or ys i no_warp)) z.count z.turn) c.loop-i.invariant.1
           ∙ ap (λ (l : List Warp). held_of l (length ys) c.args.turn) (overlay_on i ys no_warps (omega (arith, m, r.0)) (omega (arith, m, r.1, no_warps_lem))),
     )
-
-pub returns : goal.returns
-returns c =
-    let ys = c.args.ws.now in
-    (c.loop-i.invariant.1 ∙ ap (λ (i : ℕ). held_of (overlaid i ys no_warps) (length ys) c.args.turn) (le_antisymm c.loop-i.invariant.0 c.loop-i-test.false ∙ c.room-m.ensures), refl)

@@ -1,12 +1,11 @@
 use mathlib.Core.Path.{ap, ◌∙◌}
 use mathlib.Core.List.{List}
-use Prim.Native.Nat.{ℕ, ◌<◌}
-use native.Mathlib.Nat.{le_antisymm}
+use Prim.Native.Nat.{◌<◌}
 use native.Mathlib.Omega.{arith}
 use lib.ListN.{length, get_or, set}
 use Rattle.warp.specs.declared.Warp.{Warp}
 use Rattle.group_machine.specs.Held.{no_warp}
-use Rattle.group_row.specs.Row.{room_of, overlaid}
+use Rattle.group_row.specs.Row.{room_of}
 use Rattle.group_row.proofs.Rows.{room_in, overlay_on}
 use Rattle.group_row.proofs.scatter.Goals as goal
 
@@ -22,6 +21,3 @@ loop-i-preserved c =
           ∙ ap (λ (l : List Warp). set l i (get_or g.warps i no_warp)) c.loop-i.invariant.1
           ∙ overlay_on i g.warps ys (omega (arith, m, r.1, c.warp_at-w.ensures.1)) (omega (arith, m, r.0)),
     )
-
-pub returns : goal.returns
-returns c = c.loop-i.invariant.1 ∙ ap (λ (i : ℕ). overlaid i c.args.g.warps c.args.ws.now) (le_antisymm c.loop-i.invariant.0 c.loop-i-test.false ∙ c.room-m.ensures)

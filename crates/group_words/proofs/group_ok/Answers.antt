@@ -2,15 +2,6 @@ use Rattle.group_words.specs.Row.{row}
 use Rattle.group_words.proofs.Sound.{tests_are}
 use Rattle.group_words.proofs.group_ok.Goals as goal
 
-pub words_ok-words-requires : goal.words_ok-words-requires
-words_ok-words-requires c = let p = c.requires in (p.few, record { room = p.moving; long = p.long }, p.room)
-
-pub placed-place-requires : goal.placed-place-requires
-placed-place-requires c = c.requires.few
-
-pub goes_on-going-requires : goal.goes_on-going-requires
-goes_on-going-requires c = c.requires.few
-
 pub returns : goal.returns
 returns c v d =
     let a = c.args in

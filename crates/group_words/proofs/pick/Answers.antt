@@ -2,12 +2,9 @@ use mathlib.Core.Path.{sym, ◌∙◌}
 use native.Mathlib.Omega.{arith}
 use Rattle.group_words.specs.Row.{row, warp_in, warps_in}
 use Rattle.group_words.proofs.Tabulate.{tab_length}
-use Rattle.group_words.proofs.Picking.{seek_start, seek_found, seek_on, seek_none}
+use Rattle.group_words.proofs.Picking.{seek_found, seek_on, seek_none}
 use Rattle.group_words.proofs.Words.{runs_at}
 use Rattle.group_words.proofs.pick.Goals as goal
-
-pub loop-tried-init : goal.loop-tried-init
-loop-tried-init c = (omega arith, c.requires.0, λ gs xs ss. seek_start (warps_in c.args.n (row gs c.args.hs.now xs ss)) c.args.n (tab_length c.args.n (warp_in (row gs c.args.hs.now xs ss))) c.args.turn c.requires.0)
 
 pub returns-then-can_run : goal.returns-then-can_run
 returns-then-can_run c gs xs ss =

@@ -1,16 +1,9 @@
-use mathlib.Core.Path.{subst, ◌∙◌, ap}
-use native.Mathlib.Nat.{le_antisymm, le_refl}
+use mathlib.Core.Path.{subst}
+use native.Mathlib.Nat.{le_antisymm}
 use native.Mathlib.Omega.{arith}
 use Prim.Native.Nat.{ℕ}
-use lib.ListN.{length}
-use Rattle.group_words.proofs.Words.{Releasing, releasing_start, releasing_on, released_all}
+use Rattle.group_words.proofs.Words.{Releasing, releasing_on, released_all}
 use Rattle.group_words.proofs.release.Goals as goal
-
-pub loop-i-init : goal.loop-i-init
-loop-i-init c = (omega arith, releasing_start _ _)
-
-pub free-requires : goal.free-requires
-free-requires c = ap length (c.loop-i.invariant.1.rest c.loop-i.i (le_refl c.loop-i.i)) ∙ c.requires.1.long c.loop-i.i c.loop-i-test.true
 
 pub loop-i-preserved : goal.loop-i-preserved
 loop-i-preserved c = (omega arith, releasing_on _ _ _ _ c.loop-i.invariant.1 (omega (arith, c.requires.1.room, c.requires.0)) _ c.free.ensures)

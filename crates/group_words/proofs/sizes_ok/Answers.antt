@@ -13,23 +13,11 @@ use Rattle.group_words.proofs.sizes_ok.Goals as goal
 sized : (i : ℕ) → i * 8192 + 8192 - i * 8192 ≡ 8192
 sized i = omega arith
 
-pub overflow_mul-n : goal.overflow_mul-n
-overflow_mul-n c = omega (arith, c.requires.1)
-
 pub returns-then-vector-n : goal.returns-then-vector-n
 returns-then-vector-n c = let a = c.args in sizes_long a.n a.gs.now a.kernel.now a.vector.now (contents a.bytes.now a.local.now) c.if-vector-n.true
 
 pub loop-i-init : goal.loop-i-init
 loop-i-init c = (omega arith, below_none _)
-
-pub overflow_mul-a : goal.overflow_mul-a
-overflow_mul-a c = omega (arith, c.loop-i-test.true, c.requires.1)
-
-pub offset_bounds-gs-i : goal.offset_bounds-gs-i
-offset_bounds-gs-i c = omega (arith, c.loop-i-test.true, c.requires.1)
-
-pub bounds-gs-i : goal.bounds-gs-i
-bounds-gs-i c = omega (arith, c.loop-i-test.true, c.requires.1)
 
 pub returns-then-not-runs_ok : goal.returns-then-not-runs_ok
 returns-then-not-runs_ok c =

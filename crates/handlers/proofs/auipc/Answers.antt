@@ -8,29 +8,8 @@ use Rattle.isa.specs.Wide.{xd_in}
 use Rattle.isa.specs.declared.Instr.TheVariants as I
 use Rattle.layout.specs.Words.{pc_in, warp_of}
 use Rattle.word.specs.Word.{add_of}
-use borrow.Author.Rules.{rules}
 use mathlib.Core.Path.{◌∙◌, ap, refl, sym}
 use Rattle.handlers.proofs.auipc.Goals as goal
-
-pub bounds-h-1 : goal.bounds-h-1
-unfolding effect_of refusals_of warp_of
-bounds-h-1 c = search rules
-
-pub imm_u-requires : goal.imm_u-requires
-unfolding effect_of refusals_of warp_of
-imm_u-requires c = search rules
-
-pub overflow_mul-imm_u : goal.overflow_mul-imm_u
-unfolding effect_of refusals_of warp_of
-overflow_mul-imm_u c = search rules
-
-pub add-y-requires : goal.add-y-requires
-unfolding effect_of refusals_of warp_of
-add-y-requires c = search rules
-
-pub gives-requires : goal.gives-requires
-unfolding effect_of refusals_of warp_of
-gives-requires c = search rules
 
 pub returns : goal.returns
 unfolding effect_of refusals_of warp_of

@@ -7,7 +7,6 @@ use Rattle.isa.specs.declared.Instr.TheVariants as I
 use Rattle.running.proofs.Goes.{goes_then, next_goes, stop_goes}
 use Rattle.layout.specs.Words.{ended_at, waiting_at, warp_of}
 use Rattle.warp.specs.Warp.{next, with_stop}
-use borrow.Author.Rules.{rules}
 use borrow.Author.Tests.{eq-eqb, ne_eqb}
 use lib.ListN.{set}
 use mathlib.Core.Bool.{false, true}
@@ -15,25 +14,9 @@ use mathlib.Core.Path.{refl}
 use native.Mathlib.Omega.{arith}
 use Rattle.handlers.proofs.barrier.Goals as goal
 
-pub bounds-h-0 : goal.bounds-h-0
-unfolding warp_of refusals_of effect_of
-bounds-h-0 c = search rules
-
 pub returns-then-h-ne0 : goal.returns-then-h-ne0
 unfolding warp_of refusals_of effect_of
 returns-then-h-ne0 c = let a = c.args in let f = fields_of a.w in λ g x s v d n. refused (I.Barrier f.rs1) 11 (lists g a.h.now x s v d) (λ z. omega arith) c.requires n (row_fails 11 _ (ne_eqb _ _ c.if-h-ne0.true))
-
-pub bounds-h-5 : goal.bounds-h-5
-unfolding warp_of refusals_of effect_of
-bounds-h-5 c = search rules
-
-pub bounds-h-6 : goal.bounds-h-6
-unfolding warp_of refusals_of effect_of
-bounds-h-6 c = search rules
-
-pub next-requires : goal.next-requires
-unfolding warp_of refusals_of effect_of
-next-requires c = search rules
 
 pub returns : goal.returns
 unfolding warp_of refusals_of effect_of

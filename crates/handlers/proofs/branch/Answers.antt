@@ -11,56 +11,19 @@ use Rattle.running.proofs.Goes.{go_goes, next_goes}
 use Rattle.layout.specs.Words.{pc_in, warp_of}
 use Rattle.warp.specs.Warp.{next, with_pc}
 use Rattle.word.specs.Word.{add_of, extend_of, holds_of}
-use borrow.Author.Rules.{rules}
 use lib.ListN.{get_or}
 use mathlib.Core.Bool.{false, true}
 use mathlib.Core.Path.{◌∙◌, ◌≡◌, ap, refl, sym}
 use native.Mathlib.Omega.{arith}
 use Rattle.handlers.proofs.branch.Goals as goal
 
-pub cond-requires : goal.cond-requires
-unfolding effect_of refusals_of warp_of
-cond-requires c = search rules
-
-pub first-requires : goal.first-requires
-unfolding effect_of refusals_of warp_of
-first-requires c = search rules
-
-pub second-requires : goal.second-requires
-unfolding effect_of refusals_of warp_of
-second-requires c = search rules
-
-pub holds-requires : goal.holds-requires
-unfolding effect_of refusals_of warp_of
-holds-requires c = search rules
-
-pub next-requires : goal.next-requires
-unfolding effect_of refusals_of warp_of
-next-requires c = search rules
-
 pub returns-then-not-holds : goal.returns-then-not-holds
 unfolding effect_of refusals_of warp_of
 returns-then-not-holds c = let a = c.args in let f = fields_of a.w in let q : c.holds.result ≡ (holds_of (cond_of f) (get_or a.x.now (xs1_in a.w).0 0) (get_or a.x.now (xs2_in a.w).0 0)) = (c.holds.ensures ∙ rw (c.cond.ensures, c.first.ensures, c.second.ensures)) in let t : (holds_of (cond_of f) (get_or a.x.now (xs1_in a.w).0 0) (get_or a.x.now (xs2_in a.w).0 0)) ≡ false = sym q ∙ c.if-not-holds.true in λ g s v d n. moved (I.Branch (cond_of f) (xs1_in a.w) (xs2_in a.w) (imm_b f)) next g a.h.now a.x.now s v d _ a.x.now s (next_goes g a.h.now a.x.now s c.requires n _ a.x.now next c.next.ensures refl) (row_silent 8 _ (first_not (holds_of (cond_of f) (get_or a.x.now (xs1_in a.w).0 0) (get_or a.x.now (xs2_in a.w).0 0)) (astray (add_of (pc_in a.h.now) (extend_of 13 (imm_b f)))) t)) (rw t)
 
-pub imm_b-requires : goal.imm_b-requires
-unfolding effect_of refusals_of warp_of
-imm_b-requires c = search rules
-
-pub overflow_cast-imm_b : goal.overflow_cast-imm_b
-unfolding effect_of refusals_of warp_of
-overflow_cast-imm_b c = search rules
-
-pub offset-p-requires : goal.offset-p-requires
-unfolding effect_of refusals_of warp_of
-offset-p-requires c = search rules
-
 pub returns-then-p-ne0 : goal.returns-then-p-ne0
 unfolding effect_of refusals_of warp_of
 returns-then-p-ne0 c = let a = c.args in let f = fields_of a.w in let q : c.holds.result ≡ (holds_of (cond_of f) (get_or a.x.now (xs1_in a.w).0 0) (get_or a.x.now (xs2_in a.w).0 0)) = (c.holds.ensures ∙ rw (c.cond.ensures, c.first.ensures, c.second.ensures)) in let t : (holds_of (cond_of f) (get_or a.x.now (xs1_in a.w).0 0) (get_or a.x.now (xs2_in a.w).0 0)) ≡ true = sym q ∙ c.if-not-holds.false in λ g s v d n. refused (I.Branch (cond_of f) (xs1_in a.w) (xs2_in a.w) (imm_b f)) 8 (lists g a.h.now a.x.now s v d) (λ z. omega arith) c.requires n (row_holds 8 _ (both_so (holds_of (cond_of f) (get_or a.x.now (xs1_in a.w).0 0) (get_or a.x.now (xs2_in a.w).0 0)) (astray (add_of (pc_in a.h.now) (extend_of 13 (imm_b f)))) t (astray_so (add_of (pc_in a.h.now) (extend_of 13 (imm_b f))) _ (c.offset-p.ensures ∙ ap (λ (z : ℕ). add_of (pc_in a.h.now) (extend_of 13 z)) c.imm_b.ensures.0) c.if-p-ne0.true)))
-
-pub go_to-requires : goal.go_to-requires
-unfolding effect_of refusals_of warp_of
-go_to-requires c = search rules
 
 pub returns : goal.returns
 unfolding effect_of refusals_of warp_of

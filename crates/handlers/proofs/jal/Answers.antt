@@ -9,30 +9,13 @@ use Rattle.isa.specs.declared.Instr.TheVariants as I
 use Rattle.layout.specs.Words.{pc_in, warp_of}
 use Rattle.warp.specs.Warp.{linked}
 use Rattle.word.specs.Word.{add_of, extend_of}
-use borrow.Author.Rules.{rules}
 use mathlib.Core.Path.{◌∙◌, ap, sym}
 use native.Mathlib.Omega.{arith}
 use Rattle.handlers.proofs.jal.Goals as goal
 
-pub imm_j-requires : goal.imm_j-requires
-unfolding effect_of refusals_of warp_of
-imm_j-requires c = search rules
-
-pub offset-p-requires : goal.offset-p-requires
-unfolding effect_of refusals_of warp_of
-offset-p-requires c = search rules
-
 pub returns-then-p-ne0 : goal.returns-then-p-ne0
 unfolding effect_of refusals_of warp_of
 returns-then-p-ne0 c = let a = c.args in let f = fields_of a.w in λ g s v d n. refused (I.Jal (xd_in a.w) (imm_j f)) 8 (lists g a.h.now a.x.now s v d) (λ z. omega arith) c.requires n (row_holds 8 (astray (add_of (pc_in a.h.now) (extend_of 21 (imm_j f)))) (astray_so (add_of (pc_in a.h.now) (extend_of 21 (imm_j f))) _ (c.offset-p.ensures ∙ ap (λ (z : ℕ). add_of (pc_in a.h.now) (extend_of 21 z)) c.imm_j.ensures.0) c.if-p-ne0.true))
-
-pub xd-requires : goal.xd-requires
-unfolding effect_of refusals_of warp_of
-xd-requires c = search rules
-
-pub link-requires : goal.link-requires
-unfolding effect_of refusals_of warp_of
-link-requires c = search rules
 
 pub returns : goal.returns
 unfolding effect_of refusals_of warp_of

@@ -10,39 +10,14 @@ use Rattle.isa.specs.declared.Instr.TheVariants as I
 use Rattle.memory.specs.Address.{plain_of}
 use Rattle.layout.specs.Words.{warp_of}
 use Rattle.warp.specs.Warp.{linked}
-use borrow.Author.Rules.{rules}
 use lib.ListN.{get_or}
 use mathlib.Core.Path.{◌∙◌, ap, ap₂, sym}
 use native.Mathlib.Omega.{arith}
 use Rattle.handlers.proofs.jalr.Goals as goal
 
-pub first-requires : goal.first-requires
-unfolding effect_of refusals_of warp_of
-first-requires c = search rules
-
-pub imm_i-requires : goal.imm_i-requires
-unfolding effect_of refusals_of warp_of
-imm_i-requires c = search rules
-
-pub plain_address-a-requires : goal.plain_address-a-requires
-unfolding effect_of refusals_of warp_of
-plain_address-a-requires c = search rules
-
-pub overflow_sub-p : goal.overflow_sub-p
-unfolding effect_of refusals_of warp_of
-overflow_sub-p c = search rules
-
 pub returns-then-p-ne0 : goal.returns-then-p-ne0
 unfolding effect_of refusals_of warp_of
 returns-then-p-ne0 c = let a = c.args in let f = fields_of a.w in λ g s v d n. refused (I.Jalr (xd_in a.w) (xs1_in a.w) (imm_i f)) 8 (lists g a.h.now a.x.now s v d) (λ z. omega arith) c.requires n (row_holds 8 (astray (even_of (plain_of (get_or a.x.now (xs1_in a.w).0 0) (imm_i f)))) (astray_so (even_of (plain_of (get_or a.x.now (xs1_in a.w).0 0) (imm_i f))) _ (ap even_of (c.plain_address-a.ensures ∙ ap₂ plain_of c.first.ensures c.imm_i.ensures.0)) c.if-p-ne0.true))
-
-pub xd-requires : goal.xd-requires
-unfolding effect_of refusals_of warp_of
-xd-requires c = search rules
-
-pub link-requires : goal.link-requires
-unfolding effect_of refusals_of warp_of
-link-requires c = search rules
 
 pub returns : goal.returns
 unfolding effect_of refusals_of warp_of

@@ -3,13 +3,8 @@ use Rattle.definition.specs.Refuse.{refusals_of}
 use Rattle.handlers.proofs.Laws.{moved}
 use Rattle.isa.specs.declared.Instr.TheVariants as I
 use Rattle.warp.specs.Splits.{join_of}
-use borrow.Author.Rules.{rules}
 use mathlib.Core.Path.{refl}
 use Rattle.handlers.proofs.join.Goals as goal
-
-pub join-requires : goal.join-requires
-unfolding effect_of refusals_of
-join-requires c = search rules
 
 pub returns : goal.returns
 unfolding effect_of refusals_of

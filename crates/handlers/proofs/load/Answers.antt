@@ -10,51 +10,10 @@ use Rattle.isa.specs.declared.Instr.TheVariants as I
 use Rattle.memory.specs.Address.{plain_of}
 use Rattle.memory.specs.Memories.{contents, memories}
 use Rattle.layout.specs.Words.{fixed_in, warp_of}
-use borrow.Author.Rules.{rules}
 use lib.ListN.{get_or}
 use mathlib.Core.Path.{◌∙◌, ap, ap₂, sym}
 use native.Mathlib.Omega.{arith}
 use Rattle.handlers.proofs.load.Goals as goal
-
-pub first-requires : goal.first-requires
-unfolding effect_of refusals_of warp_of
-first-requires c = search rules
-
-pub imm_i-requires : goal.imm_i-requires
-unfolding effect_of refusals_of warp_of
-imm_i-requires c = search rules
-
-pub plain_address-p-requires : goal.plain_address-p-requires
-unfolding effect_of refusals_of warp_of
-plain_address-p-requires c = search rules
-
-pub bounds-g-5 : goal.bounds-g-5
-unfolding effect_of refusals_of warp_of
-bounds-g-5 c = search rules
-
-pub bounds-g-8 : goal.bounds-g-8
-unfolding effect_of refusals_of warp_of
-bounds-g-8 c = search rules
-
-pub load_op-requires : goal.load_op-requires
-unfolding effect_of refusals_of warp_of
-load_op-requires c = search rules
-
-pub scalar_load-found-requires : goal.scalar_load-found-requires
-unfolding effect_of refusals_of warp_of
-scalar_load-found-requires c = search rules
-
-pub enum_known-found : goal.enum_known-found
-unfolding effect_of refusals_of warp_of
-enum_known-found c = search rules
-
-pub gives-requires : goal.gives-requires
-unfolding effect_of refusals_of warp_of
-gives-requires c = search rules
-
-pub enum_told-1 : goal.enum_told-1
-unfolding effect_of refusals_of warp_of
-enum_told-1 c = search rules
 
 pub returns-in-Found : goal.returns-in-Found
 unfolding effect_of refusals_of warp_of

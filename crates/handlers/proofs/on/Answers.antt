@@ -5,13 +5,8 @@ use Rattle.isa.specs.Fields.{fields_of, imm_i}
 use Rattle.isa.specs.declared.Instr.TheVariants as I
 use Rattle.running.proofs.Goes.{next_goes}
 use Rattle.warp.specs.Warp.{next}
-use borrow.Author.Rules.{rules}
 use mathlib.Core.Path.{refl}
 use Rattle.handlers.proofs.on.Goals as goal
-
-pub next-requires : goal.next-requires
-unfolding effect_of refusals_of
-next-requires c = search rules
 
 pub returns : goal.returns
 unfolding effect_of refusals_of

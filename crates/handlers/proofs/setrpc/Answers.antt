@@ -5,25 +5,8 @@ use Rattle.isa.specs.Fields.{fields_of, imm_i}
 use Rattle.isa.specs.Wide.{xd_in, xs1_in}
 use Rattle.isa.specs.declared.Instr.TheVariants as I
 use Rattle.warp.specs.Splits.{set_rpc_of}
-use borrow.Author.Rules.{rules}
 use mathlib.Core.Path.{refl}
 use Rattle.handlers.proofs.setrpc.Goals as goal
-
-pub xd-requires : goal.xd-requires
-unfolding effect_of refusals_of
-xd-requires c = search rules
-
-pub xs1-requires : goal.xs1-requires
-unfolding effect_of refusals_of
-xs1-requires c = search rules
-
-pub imm_i-requires : goal.imm_i-requires
-unfolding effect_of refusals_of
-imm_i-requires c = search rules
-
-pub setrpc-requires : goal.setrpc-requires
-unfolding effect_of refusals_of
-setrpc-requires c = search rules
 
 pub returns : goal.returns
 unfolding effect_of refusals_of

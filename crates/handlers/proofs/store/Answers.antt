@@ -10,67 +10,14 @@ use Rattle.memory.specs.Address.{plain_of}
 use Rattle.memory.specs.Memory.{width_of}
 use Rattle.memory.specs.Memories.{contents, inside_one, memories, store_to}
 use Rattle.layout.specs.Words.{fixed_in, warp_of}
-use borrow.Author.Rules.{rules}
 use lib.ListN.{get_or}
 use mathlib.Core.Path.{◌∙◌, ap, ap₂, refl, sym}
 use native.Mathlib.Omega.{arith}
 use Rattle.handlers.proofs.store.Goals as goal
 
-pub first-requires : goal.first-requires
-unfolding effect_of refusals_of warp_of
-first-requires c = search rules
-
-pub imm_s-requires : goal.imm_s-requires
-unfolding effect_of refusals_of warp_of
-imm_s-requires c = search rules
-
-pub plain_address-p-requires : goal.plain_address-p-requires
-unfolding effect_of refusals_of warp_of
-plain_address-p-requires c = search rules
-
-pub bounds-g-5 : goal.bounds-g-5
-unfolding effect_of refusals_of warp_of
-bounds-g-5 c = search rules
-
-pub bounds-g-8 : goal.bounds-g-8
-unfolding effect_of refusals_of warp_of
-bounds-g-8 c = search rules
-
-pub store_op-requires : goal.store_op-requires
-unfolding effect_of refusals_of warp_of
-store_op-requires c = search rules
-
-pub second-requires : goal.second-requires
-unfolding effect_of refusals_of warp_of
-second-requires c = search rules
-
-pub scalar_store-requires : goal.scalar_store-requires
-unfolding effect_of refusals_of warp_of
-scalar_store-requires c = search rules
-
-pub next-requires : goal.next-requires
-unfolding effect_of refusals_of warp_of
-next-requires c = search rules
-
-pub shape_of-d-then-scalar_store : goal.shape_of-d-then-scalar_store
-unfolding effect_of refusals_of warp_of
-shape_of-d-then-scalar_store c = search rules
-
-pub shape_of-l-then-scalar_store : goal.shape_of-l-then-scalar_store
-unfolding effect_of refusals_of warp_of
-shape_of-l-then-scalar_store c = search rules
-
 pub returns-then-scalar_store : goal.returns-then-scalar_store
 unfolding effect_of refusals_of warp_of
 returns-then-scalar_store c = let a = c.args in let f = fields_of a.w in λ s v n. rw (c.scalar_store.ensures.1, c.if-scalar_store.true, c.store_op.ensures, (c.plain_address-p.ensures ∙ ap₂ plain_of c.first.ensures c.imm_s.ensures.0), c.second.ensures) (data_stored (I.Store (store_op_of f) (xs1_in a.w) (xs2_in a.w) (imm_s f)) a.g.now a.h.now a.x.now s v (contents a.d.now a.l.now) _ c.requires.0 n c.next.ensures (row_passes 9 (inside_one (memories (fixed_in a.g.now).dataBase (fixed_in a.g.now).lds (contents a.d.now a.l.now)) (width_of (store_op_of f)) (plain_of (get_or a.x.now (xs1_in a.w).0 0) (imm_s f))) (sym (c.scalar_store.ensures.0 ∙ rw c.store_op.ensures (ap (inside_one (memories (fixed_in a.g.now).dataBase (fixed_in a.g.now).lds (contents a.d.now a.l.now)) (width_of (store_op_of f))) (c.plain_address-p.ensures ∙ ap₂ plain_of c.first.ensures c.imm_s.ensures.0))) ∙ c.if-scalar_store.true)) (store_to (store_op_of f) (plain_of (get_or a.x.now (xs1_in a.w).0 0) (imm_s f)) (get_or a.x.now (xs2_in a.w).0 0) (memories (fixed_in a.g.now).dataBase (fixed_in a.g.now).lds (contents a.d.now a.l.now))) refl)
-
-pub shape_of-d : goal.shape_of-d
-unfolding effect_of refusals_of warp_of
-shape_of-d c = search rules
-
-pub shape_of-l : goal.shape_of-l
-unfolding effect_of refusals_of warp_of
-shape_of-l c = search rules
 
 pub returns : goal.returns
 unfolding effect_of refusals_of warp_of

@@ -6,9 +6,6 @@ use Rattle.memory.proofs.Access.{none_fails}
 use Rattle.memory.proofs.Laws.{plain_in_word}
 use Rattle.lane_address.proofs.all_in_word.Goals as goal
 
-pub crossing-requires : goal.crossing-requires
-crossing-requires c = let p = c.requires in (p.1, p.2, rw c.in-Private.is at p.3, p.4, p.5)
-
 pub returns-in-Plain : goal.returns-in-Plain
 returns-in-Plain c =
     let g = c.args in

@@ -1,10 +1,8 @@
 use mathlib.Core.Path.{sym, ap, subst, ◌∙◌}
 use mathlib.Core.Bool.{not}
 use Prim.Native.Nat.{ℕ, ◌<◌, ◌^◌}
-use native.Mathlib.Nat.{le_antisymm}
 use native.Mathlib.Omega.{arith}
 use lib.ListN.{get_or}
-use Rattle.lanes.specs.Lanes.{mask_of}
 use Rattle.lanes.proofs.Laws.{each_none}
 use Rattle.lanes.proofs.MaskLaws.{mask_lt}
 use Rattle.lanes.proofs.RowLaws.{mask_turn}
@@ -22,8 +20,3 @@ pub loop-l-preserved : goal.loop-l-preserved
 loop-l-preserved c =
     let g = c.args in
     (omega arith, mask_turn (crosses_at g.v.now g.r g.off g.w) c.loop-l.l c.loop-l.out c.with-out.result c.crosses.result (c.crosses.ensures ∙ ap (λ (u : ℕ). not (in_word_at g.w u)) (c.own_place.ensures ∙ ap (λ (i : ℕ). own_place (get_or g.v.now i 0) g.off) c.slot-i.ensures)) c.with-out.ensures c.loop-l.invariant.1)
-
-pub returns : goal.returns
-returns c =
-    let g = c.args in
-    c.loop-l.invariant.1 ∙ ap (λ (n : ℕ). mask_of n (crosses_at g.v.now g.r g.off g.w)) (le_antisymm c.loop-l.invariant.0 c.loop-l-test.false)

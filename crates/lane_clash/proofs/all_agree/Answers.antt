@@ -9,9 +9,6 @@ returns-then-apart c =
     let a = c.args in
     apart_agree a.k a.mask a.n a.o.now a.x.now (subst (λ (v : ℕ). NoneMeet v a.n a.o.now) c.width-w.ensures.0 (c.apart.ensures c.if-apart.true))
 
-pub pairs_agree-requires : goal.pairs_agree-requires
-pairs_agree-requires c = (c.width-w.ensures.2, c.requires.0, c.requires.1, λ l h t. rw c.width-w.ensures.0 (c.requires.2 l h t))
-
 pub returns : goal.returns
 returns c =
     let a = c.args in

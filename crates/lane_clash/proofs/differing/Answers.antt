@@ -1,9 +1,7 @@
-use mathlib.Core.Path.{sym, ap, subst, ◌∙◌}
+use mathlib.Core.Path.{sym, ap, subst}
 use mathlib.Core.Bool.{not}
 use Prim.Native.Nat.{ℕ, ◌<◌, ◌^◌}
-use native.Mathlib.Nat.{le_antisymm}
 use native.Mathlib.Omega.{arith}
-use Rattle.lanes.specs.Lanes.{mask_of}
 use Rattle.lanes.proofs.Laws.{each_none}
 use Rattle.lanes.proofs.MaskLaws.{mask_lt}
 use Rattle.lanes.proofs.RowLaws.{mask_turn}
@@ -13,9 +11,6 @@ use Rattle.lane_clash.proofs.differing.Goals as goal
 pub loop-h-init : goal.loop-h-init
 loop-h-init c = (omega arith, each_none _ _ _)
 
-pub agree-requires : goal.agree-requires
-agree-requires c = let p = c.requires in (p.0, p.3)
-
 pub with-out-requires : goal.with-out-requires
 with-out-requires c = (omega arith, subst (λ (m : ℕ). m < 2 ^ c.loop-h.h) (sym c.loop-h.invariant.1) (mask_lt _ c.loop-h.h))
 
@@ -23,8 +18,3 @@ pub loop-h-preserved : goal.loop-h-preserved
 loop-h-preserved c =
     let g = c.args in
     (omega arith, mask_turn (differs g.w g.o.now g.x.now g.l) c.loop-h.h c.loop-h.out c.with-out.result (not c.agree.result) (ap not c.agree.ensures) c.with-out.ensures c.loop-h.invariant.1)
-
-pub returns : goal.returns
-returns c =
-    let g = c.args in
-    c.loop-h.invariant.1 ∙ ap (λ (n : ℕ). mask_of n (differs g.w g.o.now g.x.now g.l)) (le_antisymm c.loop-h.invariant.0 c.loop-h-test.false)

@@ -1,10 +1,7 @@
-use mathlib.Core.Path.{◌≡◌, sym, subst, ◌∙◌}
-use mathlib.Core.Bool.{true, true≢false}
-use Prim.Native.Nat.{ℕ}
-use native.Mathlib.Nat.{le_antisymm}
+use mathlib.Core.Path.{sym, ◌∙◌}
+use mathlib.Core.Bool.{true≢false}
 use native.Mathlib.Omega.{arith}
 use Rattle.lanes.specs.Mask.{lane, bit}
-use Rattle.lanes.specs.Lanes.{all_below}
 use Rattle.lanes.proofs.Laws.{below_none, below_more, below_not, ok_when}
 use Rattle.lane_clash.proofs.pairs_agree.Invariants.{of_lane}
 use Rattle.lane_clash.proofs.pairs_agree.Goals as goal
@@ -33,8 +30,3 @@ loop-l-preserved c =
             | else-active w ↦ ok_when (bit g.mask (lane c.loop-l.l)) _ (λ t. absurd (true≢false (sym t ∙ sym c.active.ensures ∙ w.if-active.false)))
           ]),
     )
-
-pub returns : goal.returns
-returns c =
-    let g = c.args in
-    sym (subst (λ (m : ℕ). all_below m (of_lane g.w g.mask g.n g.o.now g.x.now) ≡ true) (le_antisymm c.loop-l.invariant.0 c.loop-l-test.false) c.loop-l.invariant.1)

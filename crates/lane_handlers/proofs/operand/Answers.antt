@@ -1,11 +1,9 @@
--- by funct3
 use Rattle.answer.specs.Rows.{◌⇒◌}
 use Rattle.isa.specs.Fields.{fields_of}
 use Rattle.isa.specs.Kinds.{source_in}
 use Rattle.isa.proofs.Laws.{past}
 use Rattle.isa.specs.Vector.{from_i, from_v, from_x}
 use Rattle.layout.specs.Words.{warp_of}
-use borrow.Author.Rules.{rules}
 use mathlib.Core.List.{[], ◌∷◌}
 use mathlib.Core.Path.{◌≡◌, refl, ◌∙◌, sym}
 use mathlib.Core.Bool.{Bool, true, false, cond}
@@ -21,26 +19,6 @@ use Rattle.lane_handlers.proofs.operand.Goals as goal
 immediate_operand : (f : ℕ → ℕ → ℕ) (b : Bool) (n i : ℕ) (m : State) → Word (cond b (f 11 n) (f 5 i)) ≡ source_of f (cond b (From.Long n) (From.I i)) m
 immediate_operand f true n i m = refl
 immediate_operand f false n i m = refl
-
-pub funct3-funct3-requires : goal.funct3-funct3-requires
-unfolding source_in warp_of
-funct3-funct3-requires c = search rules
-
-pub vs1-requires : goal.vs1-requires
-unfolding source_in warp_of
-vs1-requires c = search rules
-
-pub vs1-requires-in-2 : goal.vs1-requires-in-2
-unfolding source_in warp_of
-vs1-requires-in-2 c = search rules
-
-pub vi_immediate-requires : goal.vi_immediate-requires
-unfolding source_in warp_of
-vi_immediate-requires c = search rules
-
-pub first-requires : goal.first-requires
-unfolding source_in warp_of
-first-requires c = search rules
 
 pub returns-in-0 : goal.returns-in-0
 unfolding source_in warp_of

@@ -13,47 +13,10 @@ use Rattle.lanes.proofs.MaskLaws.{part_in}
 use Rattle.layout.specs.Words.{fixed_in, mask_in, pc_in, warp_of}
 use Rattle.warp.specs.Splits.{parted}
 use Rattle.word.specs.Word.{add_of, extend_of}
-use borrow.Author.Rules.{rules}
 use mathlib.Core.Bool.{false, true}
 use mathlib.Core.Path.{◌∙◌, ap, ap₂, sym}
 use native.Mathlib.Omega.{arith}
 use Rattle.lane_handlers.proofs.vbranch.Goals as goal
-
-pub bounds-h-2 : goal.bounds-h-2
-unfolding warp_of effect_of refusals_of
-bounds-h-2 c = search rules
-
-pub threads-requires : goal.threads-requires
-unfolding warp_of effect_of refusals_of
-threads-requires c = search rules
-
-pub cond-requires : goal.cond-requires
-unfolding warp_of effect_of refusals_of
-cond-requires c = search rules
-
-pub vs1-requires : goal.vs1-requires
-unfolding warp_of effect_of refusals_of
-vs1-requires c = search rules
-
-pub vs2-requires : goal.vs2-requires
-unfolding warp_of effect_of refusals_of
-vs2-requires c = search rules
-
-pub else_mask-e-requires : goal.else_mask-e-requires
-unfolding warp_of effect_of refusals_of
-else_mask-e-requires c = let fit = lanes_fit c.requires.0.at c.threads.ensures in (c.requires.0.at.file, c.vs1.ensures.1, c.vs2.ensures.1, fit.0, fit.1)
-
-pub imm_b-requires : goal.imm_b-requires
-unfolding warp_of effect_of refusals_of
-imm_b-requires c = search rules
-
-pub overflow_cast-imm_b : goal.overflow_cast-imm_b
-unfolding warp_of effect_of refusals_of
-overflow_cast-imm_b c = search rules
-
-pub offset-p-requires : goal.offset-p-requires
-unfolding warp_of effect_of refusals_of
-offset-p-requires c = search rules
 
 pub returns-then-e-p : goal.returns-then-e-p
 unfolding warp_of effect_of refusals_of

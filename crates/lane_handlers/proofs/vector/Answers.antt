@@ -3,7 +3,6 @@ use mathlib.Core.List.{List}
 use mathlib.Core.Bool.{Bool}
 use mathlib.Core.Path.{◌≡◌, ◌∙◌, refl, sym, ap}
 use native.Mathlib.Omega.{arith}
-use lib.ListN.{length}
 use Rattle.word.specs.declared.Op.{Op}
 use Rattle.isa.specs.declared.Instr.{Instr}
 use Rattle.isa.specs.declared.VReg.{VReg}
@@ -17,7 +16,6 @@ use Rattle.lanes.specs.declared.Lane.{Lane}
 use Rattle.lanes.specs.declared.Operand.{Operand}
 use Rattle.lanes.specs.Lanes.{op_lane, written_lanes, write_lanes}
 use Rattle.lanes.specs.Mask.{bit}
-use Rattle.lanes.proofs.Laws.{write_length}
 use Rattle.layout.specs.Words.{mask_in, fixed_in, warp_of}
 use Rattle.definition.specs.Exec.{effect_of}
 use Rattle.definition.specs.Refuse.{refusals_of}
@@ -59,17 +57,6 @@ op_lanes-requires-in-Word c =
     let lent = c.requires.at in
     let n = c.threads-n.ensures in
     (lent.file, c.vd-d.ensures.1, c.vs2-a.ensures.1, rw c.in-Word.is at c.operand-b.ensures.0, (lanes_fit lent n).0, mask_fits _ _ _ _ n c.written-mask.ensures)
-
-pub shape_of-v : goal.shape_of-v
-shape_of-v c =
-    let a = c.args in
-    let file : Operand → List ℕ = λ b. write_lanes c.threads-n.result (bit c.written-mask.result) c.vd-d.result (op_lane c.op_at-op.result a.v.now c.vs2-a.result b) a.v.now in
-    let given : c.match-b.v ≡ file c.operand-b.result =
-    elim c.match-b.branch [
-      | in-Reg w ↦ w.v-is ∙ w.op_lanes.ensures ∙ ap file (sym w.in-Reg.is)
-      | in-Word w ↦ w.v-is ∙ w.op_lanes-in-Word.ensures ∙ ap file (sym w.in-Word.is)
-    ] in
-    ap length given ∙ write_length _ _ _ _ _
 
 pub returns : goal.returns
 unfolding warp_of effect_of refusals_of

@@ -2,13 +2,8 @@ use mathlib.Core.Path.{refl, ap, ◌∙◌}
 use mathlib.Core.List.{[]}
 use Rattle.memory.specs.Memories.{contents}
 use Rattle.memory.specs.Memory.{size_of}
-use Rattle.lane_handlers.proofs.Laws.{lanes_fit, crossed, not_crossed, loaded_row}
+use Rattle.lane_handlers.proofs.Laws.{crossed, not_crossed, loaded_row}
 use Rattle.lane_handlers.proofs.vload.Goals as goal
-
-pub some_crosses-requires : goal.some_crosses-requires
-some_crosses-requires c =
-    let p = c.requires in
-    (p.0, p.2, c.size.ensures.2)
 
 pub returns-then-some_crosses : goal.returns-then-some_crosses
 returns-then-some_crosses c =
@@ -17,12 +12,6 @@ returns-then-some_crosses c =
       code = crossed a.space _ a.off a.mask a.w a.g.now a.v.now (contents a.d.now a.l.now) (c.size.ensures.0 ∙ ap size_of c.load_op-k.ensures) c.some_crosses.ensures (λ m. []) c.if-some_crosses.true;
       file = refl;
     }
-
-pub load_lanes-requires : goal.load_lanes-requires
-load_lanes-requires c =
-    let p = (c.before.before.before.before.before.before.before.before.before.before.before.before.before.before.before).requires in
-    let fit = lanes_fit p.0 c.threads-n.ensures in
-    (p.0.file, c.vd.ensures.1, fit.0, fit.1, p.1)
 
 pub returns : goal.returns
 returns c =

@@ -12,7 +12,7 @@ use Rattle.definition.specs.Exec.{effect_of}
 use Rattle.definition.specs.Refuse.{refusals_of}
 use Rattle.handlers.specs.Handles.{lists}
 use Rattle.handlers.proofs.Laws.{refused, file_written}
-use Rattle.lane_handlers.proofs.Laws.{lanes_fit, mask_refuses, mask_passes}
+use Rattle.lane_handlers.proofs.Laws.{mask_refuses, mask_passes}
 use Rattle.lane_handlers.proofs.vmerge.Goals as goal
 
 pub returns-then-is_v0 : goal.returns-then-is_v0
@@ -22,11 +22,6 @@ returns-then-is_v0 c =
     λ r d n.
     refused (I.VMerge (vd_in a.w) (vs2_in a.w) (on_source (numbers_in a.w) (source_in (fields_of a.w)))) 6 (lists a.g.now a.h.now a.x.now r a.v.now d) (λ z. omega arith) c.requires.long n
     (mask_refuses (is_v0 (vd_in a.w)) (sym (c.is_v0.ensures ∙ ap is_v0 c.vd-d.ensures.0) ∙ c.if-is_v0.true))
-
-pub merge_lanes-requires : goal.merge_lanes-requires
-merge_lanes-requires c =
-    let fit = lanes_fit c.requires.at c.threads.ensures in
-    (c.requires.at.file, c.vd-d.ensures.1, c.vs2.ensures.1, c.operand-b.ensures.0, fit.0, fit.1)
 
 pub returns : goal.returns
 unfolding warp_of effect_of refusals_of

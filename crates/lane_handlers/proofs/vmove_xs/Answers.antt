@@ -2,7 +2,6 @@ use Prim.Native.Nat.{ℕ}
 use Rattle.definition.specs.Exec.{effect_of, goes}
 use Rattle.definition.specs.Refuse.{refusals_of}
 use Rattle.handlers.proofs.Laws.{given, refused, row_fails, row_passes}
-use Rattle.lane_handlers.proofs.Laws.{lanes_fit}
 use Rattle.handlers.specs.Handles.{lists, puts_in}
 use Rattle.isa.specs.Fields.{fields_of}
 use Rattle.isa.specs.Wide.{xd_in, vs2_in}
@@ -10,30 +9,9 @@ use Rattle.isa.specs.declared.Instr.TheVariants as I
 use Rattle.lanes.specs.Lanes.{lane_of, uniform_of}
 use Rattle.lanes.specs.Mask.{bit}
 use Rattle.layout.specs.Words.{fixed_in, mask_in, warp_of}
-use borrow.Author.Rules.{rules}
 use mathlib.Core.Path.{◌∙◌, ap, sym}
 use native.Mathlib.Omega.{arith}
 use Rattle.lane_handlers.proofs.vmove_xs.Goals as goal
-
-pub bounds-h-2 : goal.bounds-h-2
-unfolding warp_of effect_of refusals_of
-bounds-h-2 c = search rules
-
-pub threads-requires : goal.threads-requires
-unfolding warp_of effect_of refusals_of
-threads-requires c = search rules
-
-pub vs2-requires : goal.vs2-requires
-unfolding warp_of effect_of refusals_of
-vs2-requires c = search rules
-
-pub uniform-held-requires : goal.uniform-held-requires
-unfolding warp_of effect_of refusals_of
-uniform-held-requires c = let fit = lanes_fit c.requires.at c.threads.ensures in (c.requires.at.file, c.vs2.ensures.1, fit.0, fit.1)
-
-pub gives-requires : goal.gives-requires
-unfolding warp_of effect_of refusals_of
-gives-requires c = search rules
 
 pub returns-then-held : goal.returns-then-held
 unfolding warp_of effect_of refusals_of

@@ -1,8 +1,6 @@
-use mathlib.Core.Path.{refl, sym, ap, subst, ◌∙◌}
+use mathlib.Core.Path.{refl, sym, subst}
 use Prim.Native.Nat.{ℕ, ◌^◌, ◌<◌}
 use native.Mathlib.Omega.{arith}
-use native.Mathlib.Nat.{le_antisymm}
-use Rattle.lanes.specs.Lanes.{mask_of}
 use Rattle.lane_masks.specs.V0Rows.{odd_lane}
 use Rattle.lanes.proofs.Laws.{each_none}
 use Rattle.lanes.proofs.MaskLaws.{mask_lt}
@@ -19,8 +17,3 @@ pub loop-l-preserved : goal.loop-l-preserved
 loop-l-preserved c =
     let s = c.args in
     (omega arith, mask_turn (odd_lane s.a.now) c.loop-l.l c.loop-l.out c.with-out.result _ refl c.with-out.ensures c.loop-l.invariant.1)
-
-pub returns : goal.returns
-returns c =
-    let s = c.args in
-    c.loop-l.invariant.1 ∙ ap (λ (n : ℕ). mask_of n (odd_lane s.a.now)) (le_antisymm c.loop-l.invariant.0 c.loop-l-test.false)

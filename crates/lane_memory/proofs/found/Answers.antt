@@ -1,5 +1,5 @@
 use mathlib.Core.Path.{◌≡◌, sym, ◌∙◌}
-use mathlib.Core.Bool.{true, true≢false}
+use mathlib.Core.Bool.{true}
 use Rattle.lanes.specs.Mask.{bit}
 use Rattle.lanes.specs.Rows.{at}
 use Rattle.memory.specs.Memory.{size_of, inside_of}
@@ -8,9 +8,6 @@ use Rattle.memory.specs.LaneAccess.{all_inside}
 use Rattle.memory.proofs.Access.{all_inside_at, all_data}
 use Rattle.memory.proofs.Laws.{load_data}
 use Rattle.lane_memory.proofs.found.Goals as goal
-
-pub fetch_op-requires : goal.fetch_op-requires
-fetch_op-requires c = (c.requires.0, c.requires.1, sym c.if-all_inside.true ∙ rw (← c.size.ensures.0) c.all_inside.ensures)
 
 pub returns-then-all_inside : goal.returns-then-all_inside
 returns-then-all_inside c =
@@ -25,12 +22,3 @@ returns-then-all_inside c =
             ∙ sym (load_data both (at g.o.now l) g.k (all_inside_at g.n (bit g.mask) (inside_of (memory_at Data both) (size_of g.k)) (at g.o.now) all l h o)),
       ),
     )
-
-pub fetch_both-requires : goal.fetch_both-requires
-fetch_both-requires c = (c.requires.0, c.requires.1, c.requires.3, sym c.if-all_inside_one.true ∙ rw (← c.size-2.ensures.0) c.all_inside_one.ensures)
-
-pub returns-then-all_inside_one : goal.returns-then-all_inside_one
-returns-then-all_inside_one c = (sym c.if-all_inside_one.true ∙ rw (← c.size-2.ensures.0) c.all_inside_one.ensures, λ e. c.fetch_both.ensures)
-
-pub returns : goal.returns
-returns c = (sym c.if-all_inside_one.false ∙ rw (← c.size-2.ensures.0) c.all_inside_one.ensures, λ e. absurd (true≢false (sym e)))

@@ -1,12 +1,9 @@
-use mathlib.Core.Path.{refl, sym, ◌∙◌}
+use mathlib.Core.Path.{sym, ◌∙◌}
 use Rattle.lanes.specs.Mask.{bit}
 use Rattle.lanes.specs.Rows.{at}
 use Rattle.lanes.proofs.Laws.{write_same}
 use Rattle.memory.specs.Memories.{contents, memories, load_from}
 use Rattle.lane_memory.proofs.load_lanes.Goals as goal
-
-pub found-requires : goal.found-requires
-found-requires c = (refl, c.requires.2, c.requires.3, c.requires.4)
 
 pub returns-then-found : goal.returns-then-found
 returns-then-found c =
@@ -15,6 +12,3 @@ returns-then-found c =
       c.put.ensures
           ∙ write_same (bit g.mask) g.vd (at c.found.new.x) (λ l. load_from g.k (memories g.base g.near (contents g.d.now g.local.now)) (at g.o.now l)) g.v.now g.n (c.found.ensures.1 c.if-found.true).1,
     )
-
-pub returns : goal.returns
-returns c = (sym c.if-found.false ∙ c.found.ensures.0, refl)

@@ -1,9 +1,7 @@
-use mathlib.Core.Path.{sym, ap, subst, ◌∙◌}
+use mathlib.Core.Path.{sym, ap, subst}
 use mathlib.Core.Bool.{not}
 use Prim.Native.Nat.{ℕ, ◌<◌, ◌^◌}
-use native.Mathlib.Nat.{le_antisymm}
 use native.Mathlib.Omega.{arith}
-use Rattle.lanes.specs.Lanes.{mask_of}
 use Rattle.lanes.proofs.Laws.{each_none}
 use Rattle.lanes.proofs.MaskLaws.{mask_lt}
 use Rattle.lanes.proofs.RowLaws.{mask_turn}
@@ -21,8 +19,3 @@ pub loop-l-preserved : goal.loop-l-preserved
 loop-l-preserved c =
     let g = c.args in
     (omega arith, mask_turn (out_at (memory g.base g.d.now) g.w g.o.now) c.loop-l.l c.loop-l.out c.with-out.result (not c.inside.result) (ap not c.inside.ensures) c.with-out.ensures c.loop-l.invariant.1)
-
-pub returns : goal.returns
-returns c =
-    let g = c.args in
-    c.loop-l.invariant.1 ∙ ap (λ (n : ℕ). mask_of n (out_at (memory g.base g.d.now) g.w g.o.now)) (le_antisymm c.loop-l.invariant.0 c.loop-l-test.false)

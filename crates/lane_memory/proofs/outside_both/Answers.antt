@@ -1,9 +1,7 @@
-use mathlib.Core.Path.{sym, ap, ap₂, subst, ◌∙◌}
+use mathlib.Core.Path.{sym, ap₂, subst}
 use mathlib.Core.Bool.{Bool, not, ◌||◌}
 use Prim.Native.Nat.{ℕ, ◌<◌, ◌^◌}
-use native.Mathlib.Nat.{le_antisymm}
 use native.Mathlib.Omega.{arith}
-use Rattle.lanes.specs.Lanes.{mask_of}
 use Rattle.lanes.proofs.Laws.{each_none}
 use Rattle.lanes.proofs.MaskLaws.{mask_lt}
 use Rattle.lanes.proofs.RowLaws.{mask_turn}
@@ -24,8 +22,3 @@ loop-l-preserved c =
       mask_turn (out_at (memories g.base g.near (contents g.d.now g.local.now)) g.w g.o.now) c.loop-l.l c.loop-l.out c.with-out.result
           (not (c.inside-in_data.result || c.inside-in_local.result)) (ap₂ (λ (a b : Bool). not (a || b)) c.inside-in_data.ensures c.inside-in_local.ensures) c.with-out.ensures c.loop-l.invariant.1,
     )
-
-pub returns : goal.returns
-returns c =
-    let g = c.args in
-    c.loop-l.invariant.1 ∙ ap (λ (n : ℕ). mask_of n (out_at (memories g.base g.near (contents g.d.now g.local.now)) g.w g.o.now)) (le_antisymm c.loop-l.invariant.0 c.loop-l-test.false)

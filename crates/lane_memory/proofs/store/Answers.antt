@@ -2,7 +2,6 @@ use mathlib.Core.Path.{◌≡◌, sym, ap, ◌∙◌}
 use mathlib.Core.Bool.{true}
 use mathlib.Core.List.{List, []}
 use Prim.Native.Nat.{ℕ, ◌<◌}
-use native.Mathlib.Nat.{le_antisymm}
 use native.Mathlib.Omega.{arith}
 use lib.ListN.{length}
 use Rattle.lanes.specs.declared.Lane.{Lane}
@@ -60,14 +59,3 @@ loop-l-preserved c =
                 each_off on step (contents g.d.now e) c.loop-l.l (contents c.if-active.d e) (sym c.active.ensures ∙ w.if-active.false) (ap (λ (d : List ℕ). contents d e) w.d-is ∙ c.loop-l.invariant.1 near e)
           ],
     )
-
-pub shape_of-d : goal.shape_of-d
-shape_of-d c =
-    let g = c.args in
-    same_long c.loop-l.l g.mask g.k g.o.now g.x.now g.base g.d.now c.loop-l.d c.loop-l.invariant.1
-
-pub returns : goal.returns
-returns c near e =
-    let g = c.args in
-    c.loop-l.invariant.1 near e
-    ∙ ap (λ (n : ℕ). store_lanes n (bit g.mask) g.k (at g.o.now) (at g.x.now) (memories g.base near (contents g.d.now e))) (le_antisymm c.loop-l.invariant.0 c.loop-l-test.false)

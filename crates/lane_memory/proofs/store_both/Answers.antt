@@ -2,7 +2,6 @@ use mathlib.Core.Path.{◌≡◌, sym, ap, ap₂, ◌∙◌}
 use mathlib.Core.Bool.{◌||◌}
 use mathlib.Core.List.{List}
 use Prim.Native.Nat.{ℕ}
-use native.Mathlib.Nat.{le_antisymm}
 use native.Mathlib.Omega.{arith}
 use lib.ListN.{length}
 use Rattle.lanes.specs.declared.Lane.{Lane}
@@ -61,18 +60,3 @@ loop-l-preserved c =
         | else-active w ↦ each_off on step first c.loop-l.l (contents c.if-active.d c.if-active.local) (sym c.active.ensures ∙ w.if-active.false) (ap₂ contents w.d-is w.local-is ∙ c.loop-l.invariant.1)
       ],
     )
-
-pub shape_of-d : goal.shape_of-d
-shape_of-d c =
-    let g = c.args in
-    same_long c.loop-l.l g.mask g.k g.o.now g.x.now g.base g.near (contents g.d.now g.local.now) (contents c.loop-l.d c.loop-l.local) c.loop-l.invariant.1 Data
-
-pub shape_of-local : goal.shape_of-local
-shape_of-local c =
-    let g = c.args in
-    same_long c.loop-l.l g.mask g.k g.o.now g.x.now g.base g.near (contents g.d.now g.local.now) (contents c.loop-l.d c.loop-l.local) c.loop-l.invariant.1 Local
-
-pub returns : goal.returns
-returns c =
-    let g = c.args in
-    c.loop-l.invariant.1 ∙ ap (λ (n : ℕ). store_lanes n (bit g.mask) g.k (at g.o.now) (at g.x.now) (memories g.base g.near (contents g.d.now g.local.now))) (le_antisymm c.loop-l.invariant.0 c.loop-l-test.false)

@@ -9,14 +9,6 @@ use Rattle.memory.proofs.Access.{all_data, all_inside_at, inside_last}
 use Rattle.lane_memory.proofs.stored.Goals as goal
 use Rattle.lane_memory.proofs.stored.Goals.{then-not-here+else-not-all_inside_one, else-not-here}
 
-pub returns-then-not-all_inside_one : goal.returns-then-not-all_inside_one
-returns-then-not-all_inside_one c =
-    let g = c.args in
-    let both = memories g.base g.near (contents g.d.now g.local.now) in
-    let tested : c.all_inside_one.result ≡ all_inside g.n (bit g.mask) (inside_one both (width_of g.k)) (at g.o.now) = rw (← c.width-then-not-here.ensures.0) c.all_inside_one.ensures in
-    let e = sym tested ∙ c.if-not-all_inside_one.true in
-    record { code = rw e; bytes = refl }
-
 pub all_agree-requires : goal.all_agree-requires
 all_agree-requires c =
     let g = c.args in
@@ -40,20 +32,6 @@ returns-then-not-all_agree c =
     let e = sym c.all_agree.ensures ∙ c.if-not-all_agree.true in
     record { code = rw (← inside, e); bytes = refl }
 
-pub store_op-requires : goal.store_op-requires
-store_op-requires c = (c.requires.0, sym c.if-here.true ∙ rw (← c.width.ensures.0) c.all_inside-here.ensures)
-
-pub store_both-requires : goal.store_both-requires
-store_both-requires c =
-    let g = c.args in
-    let both = memories g.base g.near (contents g.d.now g.local.now) in
-    let inside : true ≡ all_inside g.n (bit g.mask) (inside_one both (width_of g.k)) (at g.o.now) =
-    elim c.if-not-here.branch [
-      | then-not-here+else-not-all_inside_one w ↦ sym w.if-not-all_inside_one.false ∙ rw (← w.width-then-not-here.ensures.0) w.all_inside_one.ensures
-      | else-not-here w ↦ all_data g.n (bit g.mask) both (width_of g.k) (at g.o.now) (sym w.if-not-here.false ∙ rw (← c.width.ensures.0) c.all_inside-here.ensures)
-    ] in
-    (c.requires.0, c.requires.2, inside)
-
 pub returns-then-here : goal.returns-then-here
 returns-then-here c =
     let g = c.args in
@@ -64,14 +42,3 @@ returns-then-here c =
       | else-not-here w ↦ all_data g.n (bit g.mask) both (width_of g.k) (at g.o.now) (sym w.if-not-here.false ∙ rw (← c.width.ensures.0) c.all_inside-here.ensures)
     ] in
     record { code = rw (← inside, sym c.all_agree.ensures ∙ c.if-not-all_agree.false); bytes = c.store_op.ensures g.near g.local.now }
-
-pub returns-else-here : goal.returns-else-here
-returns-else-here c =
-    let g = c.args in
-    let both = memories g.base g.near (contents g.d.now g.local.now) in
-    let inside : true ≡ all_inside g.n (bit g.mask) (inside_one both (width_of g.k)) (at g.o.now) =
-    elim c.if-not-here.branch [
-      | then-not-here+else-not-all_inside_one w ↦ sym w.if-not-all_inside_one.false ∙ rw (← w.width-then-not-here.ensures.0) w.all_inside_one.ensures
-      | else-not-here w ↦ all_data g.n (bit g.mask) both (width_of g.k) (at g.o.now) (sym w.if-not-here.false ∙ rw (← c.width.ensures.0) c.all_inside-here.ensures)
-    ] in
-    record { code = rw (← inside, sym c.all_agree.ensures ∙ c.if-not-all_agree.false); bytes = c.store_both.ensures }

@@ -6,7 +6,7 @@ use lib.ListN.{get_or}
 use borrow.Author.Rules.{rules}
 use Rattle.lanes.specs.Mask.{bit}
 use Rattle.lanes.specs.Rows.{map_lane}
-use Rattle.lanes.proofs.RowLaws.{written_none, written_choice, written_all}
+use Rattle.lanes.proofs.RowLaws.{written_none, written_choice}
 use Rattle.lanes.proofs.map.Goals as goal
 
 pub loop-l-init : goal.loop-l-init
@@ -19,6 +19,3 @@ loop-l-preserved c =
       written_choice (bit s.mask) s.d (map_lane s.op s.x.now s.y.now) s.v.now c.loop-l.l c.loop-l.v c.slot-i.result c.choose.result c.active.result c.active.ensures c.slot-i.ensures
           (c.choose.ensures ∙ ap (λ (z : ℕ). cond c.active.result z (get_or c.loop-l.v c.slot-i.result 0)) c.apply-new.ensures) c.loop-l.invariant.1,
     )
-
-pub returns : goal.returns
-returns c = written_all _ _ _ _ c.loop-l.l _ _ c.loop-l.invariant.0 c.loop-l-test.false c.loop-l.invariant.1

@@ -4,7 +4,7 @@ use native.Mathlib.Omega.{arith}
 use borrow.Author.Rules.{rules}
 use Rattle.lanes.specs.Mask.{bit}
 use Rattle.lanes.specs.Rows.{map_lane}
-use Rattle.lanes.proofs.RowLaws.{RowWritten, written_none, written_on, written_off, written_all}
+use Rattle.lanes.proofs.RowLaws.{RowWritten, written_none, written_on, written_off}
 use Rattle.lanes.proofs.map_on.Goals as goal
 use Rattle.lanes.proofs.map_on.Goals.{then-active, else-active}
 
@@ -25,6 +25,3 @@ loop-l-preserved c =
             (written_off on s.d f s.v.now l c.loop-l.v (sym c.active.ensures ∙ w.if-active.false) c.loop-l.invariant.1)
       ],
     )
-
-pub returns : goal.returns
-returns c = written_all _ _ _ _ c.loop-l.l _ _ c.loop-l.invariant.0 c.loop-l-test.false c.loop-l.invariant.1

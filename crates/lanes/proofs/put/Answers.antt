@@ -2,7 +2,7 @@ use native.Mathlib.Omega.{arith}
 use borrow.Author.Rules.{rules}
 use Rattle.lanes.specs.Mask.{bit}
 use Rattle.lanes.specs.Rows.{at}
-use Rattle.lanes.proofs.RowLaws.{written_none, written_choice, written_all}
+use Rattle.lanes.proofs.RowLaws.{written_none, written_choice}
 use Rattle.lanes.proofs.put.Goals as goal
 
 pub loop-l-init : goal.loop-l-init
@@ -15,6 +15,3 @@ loop-l-preserved c =
       written_choice (bit s.mask) s.d (at s.a.now) s.v.now c.loop-l.l c.loop-l.v c.slot-i.result c.choose.result c.active.result c.active.ensures c.slot-i.ensures
           c.choose.ensures c.loop-l.invariant.1,
     )
-
-pub returns : goal.returns
-returns c = written_all _ _ _ _ c.loop-l.l _ _ c.loop-l.invariant.0 c.loop-l-test.false c.loop-l.invariant.1

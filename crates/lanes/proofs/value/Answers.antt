@@ -1,9 +1,5 @@
-use mathlib.Core.Path.{ap, ◌∙◌}
-use Prim.Native.Nat.{ℕ}
 use native.Mathlib.Omega.{arith}
-use native.Mathlib.Nat.{le_antisymm}
 use Rattle.lanes.specs.Mask.{bit}
-use Rattle.lanes.specs.Lanes.{value_of}
 use Rattle.lanes.specs.Rows.{at}
 use Rattle.lanes.proofs.Laws.{each_none}
 use Rattle.lanes.proofs.RowLaws.{value_turn}
@@ -16,8 +12,3 @@ pub loop-l-preserved : goal.loop-l-preserved
 loop-l-preserved c =
     let s = c.args in
     (omega arith, value_turn (bit s.mask) (at s.a.now) c.loop-l.l c.loop-l.x c.choose-x.result c.active.result c.active.ensures c.choose-x.ensures c.loop-l.invariant.1)
-
-pub returns : goal.returns
-returns c =
-    let s = c.args in
-    c.loop-l.invariant.1 ∙ ap (λ (n : ℕ). value_of n (bit s.mask) (at s.a.now)) (le_antisymm c.loop-l.invariant.0 c.loop-l-test.false)

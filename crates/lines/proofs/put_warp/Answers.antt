@@ -3,9 +3,6 @@ use Rattle.text.proofs.Laws.{puts_then}
 use Rattle.lines.specs.GroupLines.{warp_line}
 use Rattle.lines.proofs.put_warp.Goals as goal
 
-pub overflow_cast-i : goal.overflow_cast-i
-overflow_cast-i c = omega (arith, c.requires.0)
-
 pub returns : goal.returns
 unfolding warp_line
 returns c =

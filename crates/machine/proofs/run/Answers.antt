@@ -15,9 +15,6 @@ returns-then-not-runs_ok c = (omega arith, rw c.refused_run.ensures (sym (run_si
 pub returns-then-w-gt-SPLITS : goal.returns-then-w-gt-SPLITS
 returns-then-w-gt-SPLITS c = (omega arith, rw c.refused_run-then-w-gt-SPLITS.ensures (sym (run_malformed _ _ _ (sym c.runs_ok.ensures ∙ c.if-not-runs_ok.false) (deep_malformed _ c.if-w-gt-SPLITS.true))))
 
-pub answer_of-requires : goal.answer_of-requires
-answer_of-requires c = c.run_words-end.ensures.known
-
 pub returns : goal.returns
 returns c =
     let long : length c.args.w.splits ≡ split_count = search (rules, mapped) in (

@@ -1,6 +1,5 @@
 use mathlib.Core.Path.{sym}
 use mathlib.Core.List.{[]}
-use borrow.Author.Rules.{rules}
 use Rattle.isa.specs.declared.Instr.TheVariants.{Refused}
 use Rattle.isa.specs.Fields.{fields_of}
 use Rattle.isa.specs.Table.{on}
@@ -10,18 +9,6 @@ use Rattle.isa.proofs.Decoded.{small}
 use Rattle.prefix.specs.Tells.{none, is}
 use Rattle.prefix.proofs.Laws.{by_d, jalr_says, branch_says, load_says, store_says, op_imm_says, op_says, fence_says, warp_says, lane_access_says, private_says}
 use Rattle.prefix.proofs.judge.Goals as goal
-
-pub csr-requires : goal.csr-requires
-unfolding decode_of
-csr-requires c = search rules
-
-pub vector-requires : goal.vector-requires
-unfolding decode_of
-vector-requires c = search rules
-
-pub splits-requires : goal.splits-requires
-unfolding decode_of
-splits-requires c = search rules
 
 pub returns-in-55 : goal.returns-in-55
 unfolding decode_of

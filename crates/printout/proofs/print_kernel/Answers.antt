@@ -9,9 +9,6 @@ returns-then-code-ne-DONE c =
     let put = c.put_code_line.ensures in
     (put_report put.0 (launch_refused _ _ _ _ _ c.launch-left.ensures _ c.number-code.ensures c.if-code-ne-DONE.true), omega arith)
 
-pub put_five_lines-requires : goal.put_five_lines-requires
-put_five_lines-requires c = omega (arith, c.requires)
-
 pub returns : goal.returns
 returns c =
     let put = c.put_five_lines.ensures in

@@ -1,10 +1,7 @@
-use mathlib.Core.Path.{refl, sym, ◌∙◌}
+use mathlib.Core.Path.{sym, ◌∙◌}
 use borrow.Author.Rules.{rules}
 use Rattle.saved.proofs.Laws.{phases_stop, phases_go, phases_end}
 use Rattle.saved.proofs.phases_ok.Goals as goal
-
-pub loop-k-init : goal.loop-k-init
-loop-k-init c = (search rules, refl)
 
 pub returns-then-s-k-gt1 : goal.returns-then-s-k-gt1
 returns-then-s-k-gt1 c = sym (c.loop-k.invariant.1 ∙ phases_stop c.loop-k.k c.args.s.now (search rules) c.if-s-k-gt1.true)

@@ -1,11 +1,6 @@
-use mathlib.Core.Path.{◌≡◌, sym, ◌∙◌}
-use mathlib.Core.Bool.{true, ◌&&◌}
+use mathlib.Core.Path.{sym, ◌∙◌}
 use native.Mathlib.Omega.{arith}
 use borrow.Author.Rules.{rules}
-use Rattle.memory.specs.Memories.{alone}
-use Rattle.warp.specs.WellFormed.{launch_ok_of}
-use Rattle.definition.specs.Refuse.{runs_ok_of}
-use Rattle.sheet_lines.specs.Sheet.{sheet_ok_of}
 use Rattle.sheet_lines.proofs.Sheets.{sheet_head}
 use Rattle.sheet.proofs.Cases.{trace_length, mark_launch, mark_sheet, mark_none, mark_done}
 use Rattle.sheet.proofs.mark.Goals as goal
@@ -15,27 +10,20 @@ returns-then-not-may_launch c = rw c.unmarked.ensures (mark_launch _ _ _ _ _ (sy
 
 pub returns-then-not-sheet_ok : goal.returns-then-not-sheet_ok
 returns-then-not-sheet_ok c =
-    let launches : (let a = c.args in runs_ok_of a.l.fixed a.kernel.now a.vector.now (alone a.bytes.now) && launch_ok_of a.l) ≡ true = sym c.may_launch.ensures ∙ c.if-not-may_launch.false in
-    rw c.unmarked-then-not-sheet_ok.ensures (mark_sheet _ _ _ _ _ launches (sym c.sheet_ok.ensures ∙ c.if-not-sheet_ok.true))
+    rw c.unmarked-then-not-sheet_ok.ensures (mark_sheet _ _ _ _ _ (sym c.may_launch.ensures ∙ c.if-not-may_launch.false) (sym c.sheet_ok.ensures ∙ c.if-not-sheet_ok.true))
 
 pub returns-then-n-eq0 : goal.returns-then-n-eq0
 returns-then-n-eq0 c =
-    let launches : (let a = c.args in runs_ok_of a.l.fixed a.kernel.now a.vector.now (alone a.bytes.now) && launch_ok_of a.l) ≡ true = sym c.may_launch.ensures ∙ c.if-not-may_launch.false in
-    let formed : sheet_ok_of c.args.sheet.now ≡ true = sym c.sheet_ok.ensures ∙ c.if-not-sheet_ok.false in
-    rw c.unmarked-then-n-eq0.ensures (mark_none _ _ _ _ _ launches formed _ _ _ _ _ c.trace_launch-n.ensures c.if-n-eq0.true)
+    rw c.unmarked-then-n-eq0.ensures (mark_none _ _ _ _ _ (sym c.may_launch.ensures ∙ c.if-not-may_launch.false) (sym c.sheet_ok.ensures ∙ c.if-not-sheet_ok.false) _ _ _ _ _ c.trace_launch-n.ensures c.if-n-eq0.true)
 
 pub overflow_sub-m : goal.overflow_sub-m
 overflow_sub-m c =
-    let formed : sheet_ok_of c.args.sheet.now ≡ true = sym c.sheet_ok.ensures ∙ c.if-not-sheet_ok.false in
-    omega (arith, sheet_head _ formed)
+    omega (arith, sheet_head _ (sym c.sheet_ok.ensures ∙ c.if-not-sheet_ok.false))
 
 pub compare-found-requires : goal.compare-found-requires
 compare-found-requires c =
-    let formed : sheet_ok_of c.args.sheet.now ≡ true = sym c.sheet_ok.ensures ∙ c.if-not-sheet_ok.false in
-    (c.trace_launch-n.ensures.few, omega (arith, trace_length _ _ _ _ _ _ _ c.trace_launch-n.ensures, c.trace_launch-n.ensures.few), omega (arith, sheet_head _ formed))
+    (c.trace_launch-n.ensures.few, omega (arith, trace_length _ _ _ _ _ _ _ c.trace_launch-n.ensures, c.trace_launch-n.ensures.few), omega (arith, sheet_head _ (sym c.sheet_ok.ensures ∙ c.if-not-sheet_ok.false)))
 
 pub returns : goal.returns
 returns c =
-    let launches : (let a = c.args in runs_ok_of a.l.fixed a.kernel.now a.vector.now (alone a.bytes.now) && launch_ok_of a.l) ≡ true = sym c.may_launch.ensures ∙ c.if-not-may_launch.false in
-    let formed : sheet_ok_of c.args.sheet.now ≡ true = sym c.sheet_ok.ensures ∙ c.if-not-sheet_ok.false in
-    mark_done _ _ _ _ _ launches formed _ _ _ _ _ c.trace_launch-n.ensures c.if-n-eq0.false (search rules) _ c.compare-found.ensures
+    mark_done _ _ _ _ _ (sym c.may_launch.ensures ∙ c.if-not-may_launch.false) (sym c.sheet_ok.ensures ∙ c.if-not-sheet_ok.false) _ _ _ _ _ c.trace_launch-n.ensures c.if-n-eq0.false (search rules) _ c.compare-found.ensures

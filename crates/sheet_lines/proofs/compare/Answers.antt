@@ -1,11 +1,8 @@
 use native.Mathlib.Omega.{arith}
 use mathlib.Core.Path.{sym, ◌∙◌}
 use mathlib.Core.Bool.{true≢false}
-use Rattle.sheet_lines.proofs.Compares.{width, alike_none, alike_more, alike_differs, alike_short, alike_long, alike_full}
+use Rattle.sheet_lines.proofs.Compares.{width, alike_more, alike_differs, alike_short, alike_long, alike_full}
 use Rattle.sheet_lines.proofs.compare.Goals as goal
-
-pub loop-i-init : goal.loop-i-init
-loop-i-init c = (omega arith, omega arith, alike_none _ _ _ _)
 
 pub returns-then-m-i : goal.returns-then-m-i
 returns-then-m-i c = alike_short _ _ _ _ _ c.loop-i.invariant.2 (omega arith) (omega arith)

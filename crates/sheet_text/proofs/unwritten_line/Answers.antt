@@ -8,9 +8,6 @@ pub returns-then-not-room_for : goal.returns-then-not-room_for
 unfolding unwritten_line_into
 returns-then-not-room_for c = put_nothing _ _ _ (sym c.room_for.ensures ∙ c.if-not-room_for.true)
 
-pub put_unwritten_line-requires : goal.put_unwritten_line-requires
-put_unwritten_line-requires c = leb-true _ _ (sym c.room_for.ensures ∙ c.if-not-room_for.false)
-
 pub returns : goal.returns
 unfolding unwritten_line_into
 returns c =

@@ -2,16 +2,8 @@ use Prim.Native.Nat.{◌-◌, ◌/◌}
 use mathlib.Core.Path.{sym, ◌∙◌}
 use native.Mathlib.Omega.{arith}
 use lib.Seq.{length-sets}
-use Rattle.text.proofs.Laws.{puts_none, puts_then, puts_as, hex_length, hex_more}
+use Rattle.text.proofs.Laws.{puts_then, puts_as, hex_length, hex_more}
 use Rattle.text.proofs.+put_hex_digits.Goals as goal
-
-pub returns-then-k-eq0 : goal.returns-then-k-eq0
-returns-then-k-eq0 t c =
-    let s = c.args in
-    rw c.if-k-eq0.true (puts_none s.out.now s.at)
-
-pub put_hex_digits-last-requires : goal.put_hex_digits-last-requires
-put_hex_digits-last-requires t c = (omega arith, omega arith)
 
 pub put_byte-requires : goal.put_byte-requires
 put_byte-requires t c =

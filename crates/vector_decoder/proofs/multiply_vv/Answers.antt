@@ -1,32 +1,11 @@
 use mathlib.Core.Path.{◌∙◌}
 use mathlib.Core.List.{[], ◌∷◌}
 use native.Mathlib.Omega.{arith}
-use borrow.Author.Rules.{rules}
 use Rattle.isa.specs.Fields.{fields_of, funct6}
 use Rattle.isa.specs.Vector.{multiply_table, moves_m, from_v, multiply_word}
 use Rattle.isa.specs.Kinds.{source_in, row_of}
 use Rattle.isa.proofs.Forms.{form_in}
 use Rattle.vector_decoder.proofs.multiply_vv.Goals as goal
-
-pub fixed-requires : goal.fixed-requires
-unfolding row_of multiply_word source_in
-fixed-requires c = search rules
-
-pub fixed-requires-in-16 : goal.fixed-requires-in-16
-unfolding row_of multiply_word source_in
-fixed-requires-in-16 c = search rules
-
-pub fixed-requires-in-20 : goal.fixed-requires-in-20
-unfolding row_of multiply_word source_in
-fixed-requires-in-20 c = search rules
-
-pub fixed-requires-in-20-2 : goal.fixed-requires-in-20-2
-unfolding row_of multiply_word source_in
-fixed-requires-in-20-2 c = search rules
-
-pub multiply_row-requires : goal.multiply_row-requires
-unfolding row_of multiply_word source_in
-multiply_row-requires c = search rules
 
 pub returns-in-16 : goal.returns-in-16
 unfolding row_of multiply_word source_in

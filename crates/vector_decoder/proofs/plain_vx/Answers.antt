@@ -1,20 +1,11 @@
 use mathlib.Core.Path.{◌∙◌}
 use mathlib.Core.List.{[], ◌∷◌}
 use native.Mathlib.Omega.{arith}
-use borrow.Author.Rules.{rules}
 use Rattle.isa.specs.Fields.{fields_of, funct6}
 use Rattle.isa.specs.Vector.{vector_table, moves, from_x, plain_word}
 use Rattle.isa.specs.Kinds.{source_in, row_of}
 use Rattle.isa.proofs.Forms.{form_in}
 use Rattle.vector_decoder.proofs.plain_vx.Goals as goal
-
-pub move_or_merge-requires : goal.move_or_merge-requires
-unfolding row_of plain_word source_in
-move_or_merge-requires c = search rules
-
-pub row-requires : goal.row-requires
-unfolding row_of plain_word source_in
-row-requires c = search rules
 
 pub returns-in-23 : goal.returns-in-23
 unfolding row_of plain_word source_in

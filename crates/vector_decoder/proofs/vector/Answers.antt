@@ -9,26 +9,6 @@ use Rattle.isa.specs.Kinds.{row_of}
 use Rattle.isa.proofs.Laws.{past}
 use Rattle.vector_decoder.proofs.vector.Goals as goal
 
-pub plain_vv-requires : goal.plain_vv-requires
-unfolding row_of vector_word
-plain_vv-requires c = c.requires ∙ c.in-0.is
-
-pub plain_vi-requires : goal.plain_vi-requires
-unfolding row_of vector_word
-plain_vi-requires c = c.requires ∙ c.in-3.is
-
-pub plain_vx-requires : goal.plain_vx-requires
-unfolding row_of vector_word
-plain_vx-requires c = c.requires ∙ c.in-4.is
-
-pub multiply_vv-requires : goal.multiply_vv-requires
-unfolding row_of vector_word
-multiply_vv-requires c = c.requires ∙ c.in-2.is
-
-pub multiply_vx-requires : goal.multiply_vx-requires
-unfolding row_of vector_word
-multiply_vx-requires c = c.requires ∙ c.in-6.is
-
 pub returns-in-0 : goal.returns-in-0
 unfolding row_of vector_word
 returns-in-0 c = c.plain_vv.ensures ∙ simp (c.requires ∙ c.in-0.is)

@@ -1,19 +1,7 @@
 use Rattle.std.proofs.Common.{ap, ◌∙◌, le_trans, lit≤}
 use Rattle.word.specs.Word.{as_word}
-use Rattle.word.proofs.Laws.{wide_fits, wide_read, signed_small, upper_mul, upper_cast, upper_read}
+use Rattle.word.proofs.Laws.{wide_read, signed_small, upper_read}
 use Rattle.word.proofs.mulh.Goals as goal
-
-pub overflow_cast-value : goal.overflow_cast-value
-overflow_cast-value c = wide_fits c.value.result c.args.a c.ranges.a.fits c.value.ensures
-
-pub overflow_cast-value-2 : goal.overflow_cast-value-2
-overflow_cast-value-2 c = wide_fits c.value-2.result c.args.b c.ranges.b.fits c.value-2.ensures
-
-pub overflow_mul-value : goal.overflow_mul-value
-overflow_mul-value c = upper_mul _ _ _ _ (wide_read c.value.result c.args.a c.ranges.a.fits c.value.ensures) (wide_read c.value-2.result c.args.b c.ranges.b.fits c.value-2.ensures) (signed_small c.args.a c.ranges.a.fits) (le_trans (signed_small c.args.b c.ranges.b.fits) (lit≤ tt))
-
-pub overflow_cast-value-3 : goal.overflow_cast-value-3
-overflow_cast-value-3 c = upper_cast _ _ _ _ (wide_read c.value.result c.args.a c.ranges.a.fits c.value.ensures) (wide_read c.value-2.result c.args.b c.ranges.b.fits c.value-2.ensures) (signed_small c.args.a c.ranges.a.fits) (le_trans (signed_small c.args.b c.ranges.b.fits) (lit≤ tt))
 
 pub returns : goal.returns
 returns c = c.word.ensures ∙ ap as_word (upper_read _ _ _ _ (wide_read c.value.result c.args.a c.ranges.a.fits c.value.ensures) (wide_read c.value-2.result c.args.b c.ranges.b.fits c.value-2.ensures) (signed_small c.args.a c.ranges.a.fits) (le_trans (signed_small c.args.b c.ranges.b.fits) (lit≤ tt)))

@@ -1,6 +1,5 @@
 use mathlib.Core.Path.{◌∙◌, ap}
 use mathlib.Core.List.{[], ◌∷◌}
-use borrow.Author.Rules.{rules}
 use Rattle.answer.specs.Rows.{◌⇒◌}
 use Rattle.isa.specs.declared.Source.TheVariants as From
 use Rattle.isa.specs.Fields.{fields_of}
@@ -10,22 +9,6 @@ use Rattle.isa.specs.Kinds.{source_in}
 use Rattle.isa.specs.Prefix.{on_source}
 use Rattle.isa.specs.Wide.{numbers_in}
 use Rattle.isa.proofs.fields.source.Goals as goal
-
-pub vs1-requires : goal.vs1-requires
-unfolding source_in
-vs1-requires c = search rules
-
-pub vs1-requires-in-2 : goal.vs1-requires-in-2
-unfolding source_in
-vs1-requires-in-2 c = search rules
-
-pub immediate-requires : goal.immediate-requires
-unfolding source_in
-immediate-requires c = search rules
-
-pub xs1-requires : goal.xs1-requires
-unfolding source_in
-xs1-requires c = search rules
 
 pub returns-in-0 : goal.returns-in-0
 unfolding source_in

@@ -1,4 +1,0 @@
-use Rattle.running.proofs.next.Goals as goal
-
-pub returns : goal.returns
-returns c = simp c.add.ensures
