@@ -1,31 +1,21 @@
 // One access to the data memory or the local memory, little-endian, tested and then done.
 #![tactic(auto)]
 
-ghost use Rattle.std.specs.Prelude.{◌≡◌, true, cond, ◌+◌, ◌-◌, ◌^◌, ◌<◌, ◌≤◌, length};
+ghost use Rattle.std.specs.Prelude.{◌≡◌, true, cond, Some, None, ◌+◌, ◌-◌, ◌^◌, ◌<◌, ◌≤◌, length};
 ghost use Rattle.std.proofs.lemmas.List.Edits.{sets};
 ghost use Rattle.memory.specs.Bytes.{le_at, le_bytes};
 ghost use Rattle.memory.specs.Memory.{memory, data_limit, MemoryOk, size_of, width_of, inside_of, load_of, store_of};
 ghost use Rattle.memory.specs.Memories.{contents, memories, MemoriesOk, inside_one, load_from, store_to};
-ghost use Rattle.memory.specs.declared.Loaded.TheVariants.{Found, Outside};
 
 use isa::{LoadOp, StoreOp};
-use memory::{Loaded, size, width};
-
-fn wide(x: u8) -> u32
-    ensures { (result ≡ x) × (result < 256) }
-{
-    x as u32
-}
+use memory::{size, width};
 
 // At how many indexes an access of w bytes can begin in len bytes.
 fn room(len: usize, w: usize) -> u32
     requires { (len ≤ data_limit) × (w ≤ 4) }
     ensures { result ≡ len + 1 - w }
 {
-    if w <= len + 1 {
-        return (len + 1 - w) as u32;
-    }
-    0
+    (len + 1).saturating_sub(w) as u32
 }
 
 // The access rule in one compare: of an address below the base, the wrapped difference is past every index where an access can begin.
@@ -36,30 +26,26 @@ pub fn inside(d: &[u8], base: u32, w: usize, a: u32) -> bool
     word::sub(a, base) < room(d.len(), w)
 }
 
-// Reads in a straight line: each becomes one machine load.
+// Reads in a straight line: each becomes one machine load. A function a size, and none generic in it: each is one line of the size's own type.
 fn byte_at(d: &[u8], i: usize) -> u32
     requires { i + 1 ≤ length d.now }
     ensures { (result ≡ le_at 1 d.now i) × (result < 2 ^ 8) }
 {
-    wide(d[i])
+    u32::from(d[i])
 }
 
 fn half_at(d: &[u8], i: usize) -> u32
     requires { i + 2 ≤ length d.now }
     ensures { (result ≡ le_at 2 d.now i) × (result < 2 ^ 16) }
 {
-    let low = wide(d[i]);
-    let high = wide(d[i + 1]);
-    low + 256 * high
+    u32::from(u16::from_le_bytes([d[i], d[i + 1]]))
 }
 
 pub fn word_at(d: &[u8], i: usize) -> u32
     requires { i + 4 ≤ length d.now }
     ensures { result ≡ le_at 4 d.now i }
 {
-    let low = half_at(d, i);
-    let high = half_at(d, i + 2);
-    low + 0x1_0000 * high
+    u32::from_le_bytes([d[i], d[i + 1], d[i + 2], d[i + 3]])
 }
 
 // A load at an address that lies inside, by a scalar or by a lane.
@@ -89,16 +75,14 @@ fn put_half(d: &mut [u8], i: usize, x: u32)
     requires { i + 2 ≤ length d.old }
     ensures { d.new ≡ sets d.old i (le_bytes 2 x) }
 {
-    put_byte(d, i, x);
-    put_byte(d, i + 1, x / 256);
+    d[i..i + 2].copy_from_slice(&x.to_le_bytes()[..2]);
 }
 
 fn put_word(d: &mut [u8], i: usize, x: u32)
     requires { i + 4 ≤ length d.old }
     ensures { d.new ≡ sets d.old i (le_bytes 4 x) }
 {
-    put_half(d, i, x);
-    put_half(d, i + 2, x / 256 / 256);
+    d[i..i + 4].copy_from_slice(&x.to_le_bytes());
 }
 
 // A store at an address that lies inside, by a scalar or by a lane.
@@ -137,17 +121,18 @@ pub fn put_one(d: &mut [u8], base: u32, l: &mut [u8], near: u32, k: StoreOp, a: 
     put_at(l, near, k, a, x);
 }
 
-pub fn scalar_load(d: &[u8], base: u32, l: &[u8], near: u32, k: LoadOp, a: u32) -> Loaded
+// None where the access is not wholly inside one of the memories.
+pub fn scalar_load(d: &[u8], base: u32, l: &[u8], near: u32, k: LoadOp, a: u32) -> Option<u32>
     requires { MemoriesOk (memories base near (contents d.now l.now)) }
-    ensures { result ≡ cond (inside_one (memories base near (contents d.now l.now)) (size_of k) a) (Found (load_from k (memories base near (contents d.now l.now)) a)) Outside }
+    ensures { result ≡ cond (inside_one (memories base near (contents d.now l.now)) (size_of k) a) (Some (load_from k (memories base near (contents d.now l.now)) a)) None }
 {
     if inside(d, base, size(k), a) {
-        return Loaded::Found(load_at(d, base, k, a));
+        return Some(load_at(d, base, k, a));
     }
     if inside(l, near, size(k), a) {
-        return Loaded::Found(load_at(l, near, k, a));
+        return Some(load_at(l, near, k, a));
     }
-    Loaded::Outside
+    None
 }
 
 // False, and nothing changed, where the access is not wholly inside one of the memories.

@@ -1,9 +1,7 @@
 -- The number of each refusal and of each answer.
-use Rattle.std.specs.Prelude.{ℕ}
+use Rattle.std.specs.Prelude.{ℕ, Result, Ok, Err}
 use Rattle.answer.specs.declared.Refusal.{Refusal}
 use Rattle.answer.specs.declared.Refusal.TheVariants.{Size, Malformed, Ended, Waiting, OffKernel, Unknown, BadCsr, BadTarget, Outside, Differing, SplitOpen, NotWaiting, BadCard, Crossing, Clashing, BadSheet, NoSteps}
-use Rattle.answer.specs.declared.Answer.{Answer}
-use Rattle.answer.specs.declared.Answer.TheVariants.{Done, Refused}
 
 abbrev pub refusal_of : Refusal → ℕ
 refusal_of Size = 1
@@ -28,6 +26,7 @@ refusal_of NoSteps = 17
 abbrev pub last_step_number : ℕ
 last_step_number = 15
 
-abbrev pub number_of : Answer → ℕ
-number_of Done = 0
-number_of (Refused r) = refusal_of r
+-- of an answer, whatever it leaves: 0 where it is done
+abbrev pub number_of : {A : Type 0} → Result A Refusal → ℕ
+number_of (Ok x) = 0
+number_of (Err r) = refusal_of r

@@ -2,6 +2,5 @@
 #![tactic(auto)]
 
 fn main(rt: HostRuntime) {
-    let mut vector = [0u32; 8192];
-    files::run_files(&rt, b"card.bin", b"kernel.bin", b"data.bin", &mut vector);
+    files::run_files(&rt, "card.bin", "kernel.bin", "data.bin");
 }

@@ -3,14 +3,22 @@ use Prim.Native.Nat.{ℕ, zero, suc, ◌+◌, ◌*◌, ◌/◌, ◌%◌, ◌^◌
 use mathlib.Core.Path.{◌≡◌, refl, sym, ap, ap₂, ◌∙◌}
 use mathlib.Core.List.{List, [], ◌∷◌, ◌++◌, append_assoc}
 use native.Mathlib.Omega.{arith}
-use native.Mathlib.Nat.{add-zero, add-suc, suc-add, mul_assoc, mul_comm, pow-suc, mul-le-mul_right, mul-add-div_right, mul-add-mod_self_right, div-eq_of_lt, mod-eq_of_lt, mod-lt, div-lt_iff_lt-mul, div-add-mod'}
+use native.Mathlib.Nat.{add-zero, add-suc, suc-add, mul_assoc, mul_comm, pow-suc, mul-le-mul_right, mul-add-div_right, mul-add-mod_self_right, div-eq_of_lt, mod-eq_of_lt, mod-lt, div-lt_iff_lt-mul, div-add-mod', div-one}
 use lib.ListN.{length, drop, get_or, length-append}
 use lib.Seq.{drop-cons, get_or-append_seam}
+use Rattle.std.specs.Int.{bytes_high_first}
 use Rattle.big_endian.specs.BigEndian.{be_at, be_bytes}
 
 -- the bytes of d are below 256
 abbrev pub Bytes : List ℕ → Type 0
 Bytes d = (i : ℕ) → get_or d i 0 < 256
+
+-- the language's own bytes of a number, and the low n of them
+pub be_bytes_is : (n x : ℕ) → bytes_high_first n x ≡ be_bytes n x
+unfolding be_bytes
+be_bytes_is zero x = refl
+be_bytes_is (suc zero) x = ap (λ (y : ℕ). y % 256 ∷ []) (sym (div-one x))
+be_bytes_is (suc (suc n)) x = ap (λ (t : List ℕ). x / 256 ^ suc n % 256 ∷ t) (be_bytes_is (suc n) x)
 
 pub length_be : (n x : ℕ) → length (be_bytes n x) ≡ n
 unfolding be_bytes

@@ -15,7 +15,9 @@ use Rattle.warp.specs.declared.Launch.{Launch}
 use Rattle.warp.specs.declared.Warp.{Warp}
 use Rattle.warp.specs.Warp.{split_count, zero_warp, Answered, answered, with_stop}
 use Rattle.warp.proofs.SplitLaws.{by_cond}
-use Rattle.layout.specs.Words.{state_words, scalar_part, split_part, moving_part, fixed_part, warp_of, warp_in, sound_in}
+use Rattle.layout.specs.Words.{state_words, scalar_part, split_part, moving_part, fixed_part, warp_of, words_of, warp_in, sound_in}
+use Rattle.layout.specs.declared.WarpWords.{WarpWords}
+use Rattle.layout.specs.Parts.{parts_in, state_from}
 use Rattle.layout.proofs.Words.{together_words, parts_whole, fixed_long, warp_words_lem}
 use Rattle.definition.specs.State.{State, state, Outcome, outcome}
 use Rattle.definition.specs.Refuse.{runs_ok_of, launch_tests, release_tests}
@@ -24,7 +26,6 @@ use Rattle.definition.proofs.Calls.{run_size, run_one}
 use Rattle.handlers.specs.Handles.{Lists, lists, lent_state}
 use Rattle.drive.specs.Drives.{run_words_of, RunsWords}
 use Rattle.drive.proofs.Runs.{run_sound}
-use Rattle.card.specs.declared.ReadCard.{ReadCard}
 use Rattle.card.specs.Card.{reading, reading_of, read_card_of}
 use Rattle.saved.specs.Saved.{Saving, saving, save_of, restore_tests, restore_of}
 use Rattle.saved.proofs.SaveLaws.{zero_words, save_size, save_done, warp_deep}
@@ -97,11 +98,10 @@ module _ (s k : List ℕ) (n : ℕ) (v d : List ℕ) (l : length s ≡ state_wor
         by false o = other o ∙ other_run o (runs_ok_of (warp_in s).fixed k v (alone d)) refl
 
   -- the words are copied from the state, and put back into it
-  pub state_run : (g h x q : List ℕ) → g ≡ fixed_part s → h ≡ moving_part s → x ≡ scalar_part s → q ≡ split_part s
-      → (c t : ℕ) (h' x' q' v' : List ℕ) (e : Contents) → RunsWords k n c t (lists g h x q v (alone d)) (lists g h' x' q' v' e)
-      → (s' : List ℕ) → s' ≡ x' ++ q' ++ h' ++ g → run_called (called c s' v' e.data_bytes) (t ∷ []) ≡ run_call_of s k n v d (0 ∷ [])
-  state_run g h x q eg eh ex eq c t h' x' q' v' e r s' es =
-      rw (es, eg) (ran_is c t (lists (fixed_part s) h' x' q' v' e) (rw (eg, eh, ex, eq) at r) refl)
+  pub state_run : (p : WarpWords) → p ≡ parts_in s → (c t : ℕ) (p' : WarpWords) (v' : List ℕ) (e : Contents) → p'.fixed ≡ p.fixed
+      → RunsWords k n c t (lists p.fixed p.moving p.scalars p.splits v (alone d)) (lists p'.fixed p'.moving p'.scalars p'.splits v' e)
+      → (s' : List ℕ) → s' ≡ state_from p' → run_called (called c s' v' e.data_bytes) (t ∷ []) ≡ run_call_of s k n v d (0 ∷ [])
+  state_run p ep c t p' v' e ef r s' es = rw es (ran_is c t (lists p'.fixed p'.moving p'.scalars p'.splits v' e) (rw ep at r) (ef ∙ ap (λ (w : WarpWords). w.fixed) ep))
 
 -- ---- step
 
@@ -179,10 +179,20 @@ module _ (s : List ℕ) (n : ℕ) (w : Warp) (e : answered n w ≡ restore_of s)
         ∙ ap (λ (t : Saving). saving (release_of (warp_in s)).code t.state) (sym (save_done (release_of (warp_in s)).warp s long deep))
         ∙ rw answers
 
--- ---- launch
+    pub release_saved : (m : ℕ) (u : Warp) (s' : List ℕ) → answered 0 u ≡ release_of w → saving m s' ≡ save_of u s → saving m s' ≡ release_call_of s
+    release_saved m u s' ea es =
+        let zero : m ≡ 0 = ap (λ (t : Saving). t.number) (es ∙ ap (λ (a : Answered). save_of a.warp s) (ea ∙ ap release_of restored) ∙ sym (save_done (release_of (warp_in s)).warp s long deep)) in
+        rw zero (release_call 0 m u s' ea es)
 
-pub read_as : (n : ℕ) (r : ReadCard) (c : List ℕ) → n ≡ number_of r.answer → reading_of r ≡ read_card_of c → reading n r.launch ≡ read_card_of c
-read_as n r c e h = rw e h
+    -- a refused release leaves the words as they were
+    pub release_stays : (c : ℕ) → answered c w ≡ release_of w → saving c s ≡ release_call_of s
+    unfolding release_call_of
+    release_stays c e =
+        let f : answered c (warp_in s) ≡ release_of (warp_in s) = rw restored at e in
+        ap (saving c) (sym (warp_words_lem s long (passed (1 ⇒ not (eqb (length s) state_words) ∷ []) [] 2 (sound_in s) refl answers)))
+        ∙ ap (λ (a : Answered). saving a.code (words_of a.warp)) f ∙ rw answers
+
+-- ---- launch
 
 module _ (c k v d s : List ℕ) (n : ℕ) (a : Launch) (er : reading n a ≡ read_card_of c) where
   pub launch_card : (n ≡ 0 → ⊥) → called n (blank_of s) v d ≡ launch_call_of c k v d s

@@ -23,34 +23,34 @@ two_words a b (x ∷ []) e = absurd (omega arith)
 two_words a b (x ∷ y ∷ []) e = refl
 two_words a b (x ∷ y ∷ z ∷ t) e = absurd (omega arith)
 
--- ---- the calls; r is what the card is read as, n its number
-module _ (c k v d : List ℕ) (r : Reading) (e : r ≡ read_card_of c) (n : ℕ) (is : n ≡ r.number) where
+-- ---- the calls; r is what the card is read as
+module _ (c k v d : List ℕ) (r : Reading) (e : r ≡ read_card_of c) where
   module _ (s t : List ℕ) where
-    pub mark_card : (n ≡ 0 → ⊥) → (u : List ℕ) → u ≡ fitted (marks_words NoMarks) t → mark_called n u (lent_runs v d) ≡ mark_call_of c k v d s t
+    pub mark_card : (r.number ≡ 0 → ⊥) → (u : List ℕ) → u ≡ fitted (marks_words NoMarks) t → mark_called r.number u (lent_runs v d) ≡ mark_call_of c k v d s t
     unfolding mark_call_of
-    mark_card h u f = rw (← e, ← is, ne_eqb n 0 h, ne_eqb n 0 h, f)
+    mark_card h u f = rw (← e, ne_eqb r.number 0 h, ne_eqb r.number 0 h, f)
 
-    module _ (h : n ≡ 0) where
+    module _ (h : r.number ≡ 0) where
       pub mark_room : (length t ≡ 2 → ⊥) → mark_called 1 t (lent_runs v d) ≡ mark_call_of c k v d s t
       unfolding mark_call_of
-      mark_room z = rw (← e, ← is, h, ne_eqb _ _ z)
+      mark_room z = rw (← e, h, ne_eqb _ _ z)
 
       pub mark_call : length t ≡ 2 → (a : Marking) → a ≡ mark_of k r.launch v d s → (u : List ℕ) → u ≡ fitted (marks_words a.marks) t
           → mark_called a.number u a.left ≡ mark_call_of c k v d s t
       unfolding mark_call_of
-      mark_call z a q u f = rw (f, ← e, ← is, h, ← q, eq-eqb _ _ z)
+      mark_call z a q u f = rw (f, ← e, h, ← q, eq-eqb _ _ z)
 
   module _ (t w : List ℕ) where
-    pub sheet_card : (n ≡ 0 → ⊥) → (u : List ℕ) → u ≡ fitted (0 ∷ []) w → sheet_called n u t (lent_runs v d) ≡ sheet_call_of c k v d t w
+    pub sheet_card : (r.number ≡ 0 → ⊥) → (u : List ℕ) → u ≡ fitted (0 ∷ []) w → sheet_called r.number u t (lent_runs v d) ≡ sheet_call_of c k v d t w
     unfolding sheet_call_of
-    sheet_card h u f = rw (← e, ← is, ne_eqb n 0 h, ne_eqb n 0 h, f)
+    sheet_card h u f = rw (← e, ne_eqb r.number 0 h, ne_eqb r.number 0 h, f)
 
-    module _ (h : n ≡ 0) where
+    module _ (h : r.number ≡ 0) where
       pub sheet_room_lem : (length w ≡ 1 → ⊥) → sheet_called 1 w t (lent_runs v d) ≡ sheet_call_of c k v d t w
       unfolding sheet_call_of
-      sheet_room_lem z = rw (← e, ← is, h, ne_eqb _ _ z)
+      sheet_room_lem z = rw (← e, h, ne_eqb _ _ z)
 
       pub sheet_call : length w ≡ 1 → (a : Modelling) → a ≡ model_of k r.launch v d t → (u : List ℕ) → u ≡ fitted (a.written ∷ []) w
           → sheet_called a.number u a.target a.left ≡ sheet_call_of c k v d t w
       unfolding sheet_call_of
-      sheet_call z a q u f = rw (f, ← e, ← is, h, ← q, eq-eqb _ _ z)
+      sheet_call z a q u f = rw (f, ← e, h, ← q, eq-eqb _ _ z)

@@ -6,6 +6,7 @@ ghost use Rattle.sheet_lines.specs.Compare.{marks_number, marks_step};
 ghost use Rattle.sheet.specs.Mark.{lent_runs};
 ghost use Rattle.capi_sheet.specs.Calls.{fitted, marks_words, mark_called, mark_call_of, sheet_called, sheet_call_of};
 
+use answer::Refusal;
 use sheet_lines::Marks;
 
 // The marks' number and the differing step, where there is room for just these two.
@@ -39,22 +40,26 @@ pub fn bench_mark(
 ) -> u32
     ensures { mark_called result res.new (lent_runs vector.new bytes.new) ≡ mark_call_of card.now kernel.now vector.old bytes.old sheet.now res.old }
 {
-    let read = card::read_card(card);
-    let a = read.answer;
-    let code = answer::number(a);
-    if code != 0 {
-        put_marks(res, Marks::NoMarks);
-        return code;
-    }
+    let l = match card::read_card(card) {
+        Ok(l) => l,
+        Err(why) => {
+            put_marks(res, Marks::NoMarks);
+            return why.number();
+        }
+    };
     if res.len() != 2 {
-        return answer::SIZE;
+        return Refusal::Size.number();
     }
-    let l = read.launch;
-    let marked = sheet::mark(l, kernel, vector, bytes, sheet);
-    let b = marked.answer;
-    let m = marked.marks;
-    put_marks(res, m);
-    answer::number(b)
+    match sheet::mark(l, kernel, vector, bytes, sheet) {
+        Ok(marked) => {
+            put_marks(res, marked.marks);
+            0
+        }
+        Err(why) => {
+            put_marks(res, Marks::NoMarks);
+            why.number()
+        }
+    }
 }
 
 pub fn bench_sheet(
@@ -67,19 +72,17 @@ pub fn bench_sheet(
 ) -> u32
     ensures { sheet_called result written.new target.new (lent_runs vector.new bytes.new) ≡ sheet_call_of card.now kernel.now vector.old bytes.old target.old written.old }
 {
-    let read = card::read_card(card);
-    let a = read.answer;
-    let code = answer::number(a);
-    if code != 0 {
-        put_count(written, 0);
-        return code;
-    }
+    let l = match card::read_card(card) {
+        Ok(l) => l,
+        Err(why) => {
+            put_count(written, 0);
+            return why.number();
+        }
+    };
     if written.len() != 1 {
-        return answer::SIZE;
+        return Refusal::Size.number();
     }
-    let l = read.launch;
     let modelled = sheet::model(l, kernel, vector, bytes, target);
-    let b = modelled.answer;
-    put_count(written, modelled.written);
-    answer::number(b)
+    put_count(written, modelled.unwrap_or(0));
+    answer::number(&modelled)
 }

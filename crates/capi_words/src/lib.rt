@@ -4,6 +4,7 @@
 ghost use Rattle.std.specs.Prelude.{◌≡◌};
 ghost use Rattle.capi_words.specs.Words.{decode_call_of};
 
+use answer::Refusal;
 use isa::Instr;
 
 pub fn bench_decode(word: u32) -> u32
@@ -11,10 +12,10 @@ pub fn bench_decode(word: u32) -> u32
 {
     let i = instruction::decode(word);
     if instruction::over_mask(i) {
-        return answer::UNKNOWN;
+        return Refusal::Unknown.number();
     }
     match i {
-        Instr::Refused => answer::UNKNOWN,
-        _ => answer::DONE,
+        Instr::Refused => Refusal::Unknown.number(),
+        _ => 0,
     }
 }

@@ -1,12 +1,13 @@
 -- Reading and writing a card, case by case; two results that a contract allows are equal.
 use Prim.Native.Nat.{ℕ}
-use mathlib.Core.Path.{◌≡◌, refl, sym, ap, ap₂, ◌∙◌}
+use mathlib.Core.Path.{◌≡◌, refl, sym, ap, ◌∙◌}
 use mathlib.Core.Bool.{Bool, true, false, not}
 use mathlib.Core.List.{List, [], ◌∷◌}
 use lib.Dec.{eqb}
 use lib.ListN.{length}
 use borrow.Author.Tests.{eq-eqb, ne_eqb, eqb-true}
-use Rattle.answer.specs.declared.Answer.{Answer}
+use Rattle.std.specs.Prelude.{Result}
+use Rattle.answer.specs.declared.Refusal.{Refusal}
 use Rattle.answer.specs.Answer.{number_of}
 use Rattle.answer.specs.Rows.{Row, ◌⇒◌, first}
 use Rattle.answer.proofs.Numbers.{number_one}
@@ -15,7 +16,6 @@ use Rattle.warp.specs.declared.Launch.{Launch}
 use Rattle.warp.specs.Warp.{zero_launch}
 use Rattle.warp.specs.WellFormed.{launch_ok_of}
 use Rattle.big_endian.specs.Puts.{puts_all, later}
-use Rattle.card.specs.declared.ReadCard.{ReadCard}
 use Rattle.card.specs.Card.{values_of, card_size, head_ok_at, launch_at, card_of, Reading, reading, reading_of, read_tests, read_card_of, Writing, writing, write_tests, write_card_of}
 
 -- ---- reading
@@ -89,13 +89,13 @@ puts_rest l n i t = puts_all (later n (values_of l)) i t
 -- ---- determinacy
 
 -- two results of read_card for the same bytes
-pub read_determined : (d : List ℕ) (r s : ReadCard) → reading_of r ≡ read_card_of d → reading_of s ≡ read_card_of d → r ≡ s
+pub read_determined : (d : List ℕ) (r s : Result Launch Refusal) → reading_of r ≡ read_card_of d → reading_of s ≡ read_card_of d → r ≡ s
 read_determined d r s p q =
     let e : reading_of r ≡ reading_of s = p ∙ sym q in
-    ap₂ (λ (a : Answer) (l : Launch). record { answer = a; launch = l }) (number_one r.answer s.answer (ap (λ (x : Reading). x.number) e)) (ap (λ (x : Reading). x.launch) e)
+    number_one zero_launch r s (ap (λ (x : Reading). x.number) e) (ap (λ (x : Reading). x.launch) e)
 
 -- two results of write_card for the same launch and target: the answers, and what the target holds
-pub write_determined : (l : Launch) (t : List ℕ) (a b : Answer) (u v : List ℕ) → writing (number_of a) u ≡ write_card_of l t → writing (number_of b) v ≡ write_card_of l t → (a ≡ b) × (u ≡ v)
+pub write_determined : (l : Launch) (t : List ℕ) (a b : Result Unit Refusal) (u v : List ℕ) → writing (number_of a) u ≡ write_card_of l t → writing (number_of b) v ≡ write_card_of l t → (a ≡ b) × (u ≡ v)
 write_determined l t a b u v p q =
     let e : writing (number_of a) u ≡ writing (number_of b) v = p ∙ sym q in
-    (number_one a b (ap (λ (x : Writing). x.number) e), ap (λ (x : Writing). x.target) e)
+    (number_one tt a b (ap (λ (x : Writing). x.number) e) refl, ap (λ (x : Writing). x.target) e)

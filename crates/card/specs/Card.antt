@@ -1,11 +1,12 @@
 -- The launch card: how its bytes lie, and what reading and writing it answer.
-use Rattle.std.specs.Prelude.{ℕ, Bool, not, ◌&&◌, cond, List, [], ◌∷◌, eqb, length, replicate}
+use Rattle.std.specs.Prelude.{ℕ, Bool, not, ◌&&◌, cond, List, [], ◌∷◌, eqb, length, replicate, Result}
+use Rattle.std.specs.Result.{result_unwrap_or}
+use Rattle.answer.specs.declared.Refusal.{Refusal}
 use Rattle.answer.specs.Answer.{number_of}
 use Rattle.answer.specs.Rows.{Row, ◌⇒◌, first}
 use Rattle.warp.specs.declared.Launch.{Launch}
 use Rattle.warp.specs.Warp.{zero_launch}
 use Rattle.warp.specs.WellFormed.{launch_ok_of}
-use Rattle.card.specs.declared.ReadCard.{ReadCard}
 use Rattle.big_endian.specs.Layout.{Values, end, ◌▹◌, total_of, values_at, bytes_of}
 
 -- 2 bytes length; version, NUMT, NUMW, WID, one byte each; then eleven 32-bit words
@@ -79,8 +80,8 @@ pub record Reading : Type 0 where
 abbrev pub reading : ℕ → Launch → Reading
 reading n l = record { number = n; launch = l }
 
-abbrev pub reading_of : ReadCard → Reading
-reading_of r = reading (number_of r.answer) r.launch
+abbrev pub reading_of : Result Launch Refusal → Reading
+reading_of r = reading (number_of r) (result_unwrap_or r zero_launch)
 
 -- any other total, length or version is 13; then a value out of range is 1
 abbrev pub read_tests : List ℕ → List (Row Bool)

@@ -2,13 +2,11 @@
 #![tactic(auto)]
 
 ghost use Rattle.std.specs.Prelude.{◌≡◌, length};
-ghost use Rattle.answer.specs.declared.Answer.TheVariants.{Refused};
 ghost use Rattle.answer.specs.Answer.{number_of};
-ghost use Rattle.warp.specs.Warp.{zero_launch};
 ghost use Rattle.big_endian.specs.Puts.{puts_all, later};
 ghost use Rattle.card.specs.Card.{values_of, card_size, head_ok_at, launch_at, reading_of, read_card_of, writing, write_card_of};
 
-use answer::{Answer, Refusal};
+use answer::Refusal;
 use big_endian::{byte_at, half_at, put_byte, put_half, put_word, word_at};
 use warp::{Fixed, Launch};
 
@@ -17,12 +15,6 @@ const CARD_SIZE: usize = 50;
 const CARD_LENGTH: u32 = 48;
 
 const CARD_VERSION: u32 = 1;
-
-#[derive(Drop)]
-pub struct ReadCard {
-    pub answer: Answer,
-    pub launch: Launch,
-}
 
 fn head_ok(b: &[u8]) -> bool
     requires { length b.now ≡ card_size }
@@ -58,34 +50,21 @@ fn launch_at(b: &[u8]) -> Launch
     }
 }
 
-fn refused(why: Refusal) -> ReadCard
-    ensures { result ≡ record { answer = Refused why; launch = zero_launch } }
-{
-    let l = warp::zero_launch();
-    ReadCard {
-        answer: Answer::Refused(why),
-        launch: l,
-    }
-}
-
-// The launch on a card; all zeros where the card is refused.
-pub fn read_card(bytes: &[u8]) -> ReadCard
+// The launch on a card.
+pub fn read_card(bytes: &[u8]) -> Result<Launch, Refusal>
     ensures { reading_of result ≡ read_card_of bytes.now }
 {
     if bytes.len() != CARD_SIZE {
-        return refused(Refusal::BadCard);
+        return Err(Refusal::BadCard);
     }
     if !head_ok(bytes) {
-        return refused(Refusal::BadCard);
+        return Err(Refusal::BadCard);
     }
     let l = launch_at(bytes);
     if !warp::launch_ok(l) {
-        return refused(Refusal::Size);
+        return Err(Refusal::Size);
     }
-    ReadCard {
-        answer: Answer::Done,
-        launch: l,
-    }
+    Ok(l)
 }
 
 // Length to entry PC; what is left to put is KNL to GIDZ.
@@ -121,16 +100,16 @@ fn put_later(l: Launch, t: &mut [u8])
 }
 
 // The launch written as a card; nothing is written where it is refused.
-pub fn write_card(l: Launch, target: &mut [u8]) -> Answer
+pub fn write_card(l: Launch, target: &mut [u8]) -> Result<(), Refusal>
     ensures { writing (number_of result) target.new ≡ write_card_of l target.old }
 {
     if target.len() != CARD_SIZE {
-        return Answer::Refused(Refusal::Size);
+        return Err(Refusal::Size);
     }
     if !warp::launch_ok(l) {
-        return Answer::Refused(Refusal::Size);
+        return Err(Refusal::Size);
     }
     put_first(l, target);
     put_later(l, target);
-    Answer::Done
+    Ok(())
 }

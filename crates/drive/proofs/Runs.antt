@@ -92,10 +92,18 @@ module _ (k : List ℕ) (n : ℕ) (a b : Lists) (t : ℕ) (r : Going k n a b t) 
         drives = sym (r.goes ∙ steps_stop k n t (lent_state b) l (λ e. z (sym code_is ∙ e)) ∙ ap (ran t) (sym q.goes));
       }
 
-pub drives_end : (k : List ℕ) (n : ℕ) (a b : Lists) (t c : ℕ) → Going k n a b t → c ≡ 0 → n ≤ t → Drives k n c t a b
-drives_end k n a b t c r z l =
+pub drives_end : (k : List ℕ) (n : ℕ) (a b : Lists) (t : ℕ) → Going k n a b t → n ≤ t → Drives k n 0 n a b
+drives_end k n a b t r l =
     let w = r.started.lent in
-    rw z (record { known = lit≤ tt; long = w.long; room = w.room; sound = w.sound; size = r.bytes; drives = sym (r.goes ∙ steps_end k n t (lent_state b) l) })
+    let e : t ≡ n = omega (arith, r.few) in
+    record {
+      known = lit≤ tt;
+      long = w.long;
+      room = w.room;
+      sound = w.sound;
+      size = r.bytes;
+      drives = ap (λ (u : ℕ). ran u (outcome 0 (lent_state b))) (sym e) ∙ sym (r.goes ∙ steps_end k n t (lent_state b) l);
+    }
 
 -- ---- a run of the words
 

@@ -2,6 +2,8 @@
 #![tactic(auto)]
 
 ghost use Rattle.std.specs.Prelude.{◌≡◌, true, List, [], ◌∷◌, ◌++◌, ℕ, ◌+◌, ◌*◌, ◌^◌, ◌≤◌, length, get_or};
+ghost use Rattle.std.specs.Result.{result_unwrap_or};
+ghost use Rattle.answer.specs.Answer.{refusal_of, number_of};
 ghost use Rattle.answer.specs.Rows.{◌⇒◌, first};
 ghost use Rattle.isa.specs.Fields.{fields_of};
 ghost use Rattle.isa.specs.Table.{word_at};
@@ -17,15 +19,16 @@ ghost use Rattle.definition.specs.Step.{exec_of, step_of, fetched, fetch_of};
 ghost use Rattle.handlers.specs.Handles.{lists, Handles};
 ghost use Rattle.exec.specs.Ready.{Ready, Started, Lies, Widens};
 
+use answer::Refusal;
 use handlers::{
     auipc, barrier, branch, csr, end, gives, jal, jalr, join, load, on, pend, setrpc, store,
 };
 use isa::fields::{imm_i, imm_s, private_load_offset, private_store_offset};
 use isa::{Space, fields, kinds};
-use lane_handlers::{
-    on_if, vbranch, vector, vid, vload, vmerge, vmove, vmove_sx, vmove_xs, vstore,
+use lane_handlers::{vbranch, vector, vid, vload, vmerge, vmove, vmove_sx, vmove_xs, vstore};
+use layout::{
+    BITS, CODEBASE, ENDED, FIXED, FLAT, MASK, MOVING, PC, PREFIX, SCALARS, WAITING, WarpWords,
 };
-use layout::{BITS, CODEBASE, ENDED, FIXED, FLAT, MASK, MOVING, PC, PREFIX, SCALARS, WAITING};
 use scalar_ops::op_reg;
 
 // ---- the rows
@@ -41,39 +44,45 @@ fn lane_word(
     l: &mut [u8],
     kind: u32,
     w: u64,
-) -> u32
+) -> Result<(), Refusal>
     requires { Ready (lists g.now h.old x.old s.old v.old (contents d.old l.old)) × (instr_of kind w ≡ word_at (fields_of w) kind (lane_groups ++ of_registers ++ of_immediates)) }
-    ensures { Handles (exec_of (wide_of kind w)) result (lists g.now h.old x.old s.old v.old (contents d.old l.old)) (lists g.now h.new x.new s.new v.new (contents d.new l.new)) }
+    ensures { Handles (exec_of (wide_of kind w)) (number_of result) (lists g.now h.old x.old s.old v.old (contents d.old l.old)) (lists g.now h.new x.new s.new v.new (contents d.new l.new)) }
 {
     let mask = h[MASK];
     match kind {
         kinds::VBRANCH => vbranch(h, g, s, v, w),
-        kinds::SETRPC => setrpc(h, x, w),
-        kinds::VLOAD => on_if(vload(Space::Plain, imm_i(w), mask, g, v, d, l, w), h),
-        kinds::VSTORE => on_if(vstore(Space::Plain, imm_s(w), mask, g, v, d, l, w), h),
-        kinds::PLOAD => on_if(
-            vload(Space::Private, private_load_offset(w), mask, g, v, d, l, w),
-            h,
-        ),
-        kinds::PSTORE => on_if(
-            vstore(Space::Private, private_store_offset(w), mask, g, v, d, l, w),
-            h,
-        ),
-        kinds::JOIN => join(h, s),
+        kinds::SETRPC => Ok(setrpc(h, x, w)),
+        kinds::VLOAD => {
+            vload(Space::Plain, imm_i(w), mask, g, v, d, l, w)?;
+            Ok(running::next(h))
+        }
+        kinds::VSTORE => {
+            vstore(Space::Plain, imm_s(w), mask, g, v, d, l, w)?;
+            Ok(running::next(h))
+        }
+        kinds::PLOAD => {
+            vload(Space::Private, private_load_offset(w), mask, g, v, d, l, w)?;
+            Ok(running::next(h))
+        }
+        kinds::PSTORE => {
+            vstore(Space::Private, private_store_offset(w), mask, g, v, d, l, w)?;
+            Ok(running::next(h))
+        }
+        kinds::JOIN => Ok(join(h, s)),
         kinds::ENDPRG => end(h),
         kinds::BARRIER => barrier(h, w),
         kinds::VMOVE_XS => vmove_xs(h, g, x, v, w),
-        kinds::VMOVE_SX => vmove_sx(h, g, x, v, w),
+        kinds::VMOVE_SX => Ok(vmove_sx(h, g, x, v, w)),
         kinds::VID => vid(h, g, v, w),
-        kinds::VMOVE => vmove(h, g, x, v, w),
-        kinds::REGEXT => pend(prefix::REGEXT, h, w),
-        kinds::REGEXTI => pend(prefix::REGEXTI, h, w),
+        kinds::VMOVE => Ok(vmove(h, g, x, v, w)),
+        kinds::REGEXT => Ok(pend(prefix::REGEXT, h, w)),
+        kinds::REGEXTI => Ok(pend(prefix::REGEXTI, h, w)),
         kinds::VMERGE => vmerge(h, g, x, v, w),
         _ => op_reg(h, x, kind, w),
     }
 }
 
-// The word w, whose row is `kind`.
+// The word w, whose row is `kind`. The warp's words come in their parts, since each handler takes only those that it needs.
 fn exec(
     h: &mut [u32; MOVING],
     g: &[u32; FIXED],
@@ -84,22 +93,22 @@ fn exec(
     l: &mut [u8],
     kind: u32,
     w: u64,
-) -> u32
+) -> Result<(), Refusal>
     requires { Ready (lists g.now h.old x.old s.old v.old (contents d.old l.old)) }
-    ensures { Handles (exec_of (wide_of kind w)) result (lists g.now h.old x.old s.old v.old (contents d.old l.old)) (lists g.now h.new x.new s.new v.new (contents d.new l.new)) }
+    ensures { Handles (exec_of (wide_of kind w)) (number_of result) (lists g.now h.old x.old s.old v.old (contents d.old l.old)) (lists g.now h.new x.new s.new v.new (contents d.new l.new)) }
 {
     if kinds::VECTOR <= kind {
         return vector(h, g, x, v, kind, w);
     }
     match kind {
-        kinds::LUI => gives(fields::imm_u(w) * 4096, h, x, w),
-        kinds::AUIPC => auipc(h, x, w),
+        kinds::LUI => Ok(gives(fields::imm_u(w) * 4096, h, x, w)),
+        kinds::AUIPC => Ok(auipc(h, x, w)),
         kinds::JAL => jal(h, x, w),
         kinds::JALR => jalr(h, x, w),
         kinds::BRANCH => branch(h, x, w),
         kinds::LOAD => load(h, g, x, d, l, w),
         kinds::STORE => store(h, g, x, d, l, w),
-        kinds::FENCE => on(h, w),
+        kinds::FENCE => Ok(on(h, w)),
         kinds::CSR => csr(h, g, x, w),
         _ => lane_word(h, g, x, s, v, d, l, kind, w),
     }
@@ -107,22 +116,15 @@ fn exec(
 
 // ---- the step
 
-// Why the word at the PC can't be looked at, or 0 and the word.
-#[derive(Clone, Copy)]
-pub struct Word {
-    pub code: u32,
-    pub word: u32,
-}
-
-// Which of 3 and 4 it is.
-fn stop_number(h: &[u32; MOVING]) -> u32
+// Why a warp that has ended or waits takes no step.
+fn stop_reason(h: &[u32; MOVING]) -> Refusal
     requires { ended_in h.now ≡ 0 → waiting_in h.now ≡ 0 → ⊥ }
-    ensures { result ≡ first (3 ⇒ is_set (ended_in h.now) ∷ 4 ⇒ is_set (waiting_in h.now) ∷ []) }
+    ensures { refusal_of result ≡ first (3 ⇒ is_set (ended_in h.now) ∷ 4 ⇒ is_set (waiting_in h.now) ∷ []) }
 {
     if h[ENDED] != 0 {
-        return answer::ENDED;
+        return Refusal::Ended;
     }
-    answer::WAITING
+    Refusal::Waiting
 }
 
 // Which kernel word the PC lies on: a PC before the code wraps to a place after it, since code ends at 2^32 at the latest.
@@ -133,60 +135,34 @@ fn place(pc: u32, base: u32) -> usize
 }
 
 // The tests 3 to 5, and the word that the PC lies on.
-pub fn fetch(h: &[u32; MOVING], g: &[u32; FIXED], k: &[u32]) -> Word
+pub fn fetch(h: &[u32; MOVING], g: &[u32; FIXED], k: &[u32]) -> Result<u32, Refusal>
     requires { (fixed_in g.now).codeBase + 4 * length k.now ≤ 2 ^ 32 }
-    ensures { (x s : List ℕ) → fetched result.code result.word ≡ fetch_of k.now (warp_of g.now h.now x s) }
+    ensures { (x s : List ℕ) → fetched (number_of result) (result_unwrap_or result 0) ≡ fetch_of k.now (warp_of g.now h.now x s) }
 {
     if (h[ENDED] | h[WAITING]) != 0 {
-        return Word {
-            code: stop_number(h),
-            word: 0,
-        };
+        return Err(stop_reason(h));
     }
     let at = place(h[PC], g[CODEBASE]);
     if k.len() <= at {
-        return Word {
-            code: answer::OFF_KERNEL,
-            word: 0,
-        };
+        return Err(Refusal::OffKernel);
     }
-    Word {
-        code: answer::DONE,
-        word: k[at],
-    }
+    Ok(k[at])
 }
 
-// Why a word that was fetched isn't run, or 0 and the word with the numbers of its registers above it.
-#[derive(Clone, Copy)]
-pub struct WideWord {
-    pub code: u32,
-    pub word: u64,
-}
-
-// The pending prefix put on the word w, where there is one: then the word has to take it.
-fn widened(h: &[u32; MOVING], w: u32) -> WideWord
+// The word w with the numbers of its registers above it. Where a prefix is pending the word has to take it.
+fn widened(h: &[u32; MOVING], w: u32) -> Result<u64, Refusal>
     requires { prefix_ok_of (prefix_in h.now) ≡ true }
-    ensures { Widens (prefix_in h.now) w result.code result.word }
+    ensures { Widens (prefix_in h.now) w (number_of result) (result_unwrap_or result 0) }
 {
     let kind = h[PREFIX];
-    let alone = fields::plain(w);
     if kind == 0 {
-        return WideWord {
-            code: answer::DONE,
-            word: alone,
-        };
+        return Ok(fields::plain(w));
     }
     let bits = h[BITS];
     if !prefix::takes(kind, bits, w) {
-        return WideWord {
-            code: answer::UNKNOWN,
-            word: 0,
-        };
+        return Err(Refusal::Unknown);
     }
-    WideWord {
-        code: answer::DONE,
-        word: prefix::widen(kind, bits, w),
-    }
+    Ok(prefix::widen(kind, bits, w))
 }
 
 // No prefix is pending any more. Where none was, nothing is written: the loop over steps then keeps both words as they are (docs/SPEED.md).
@@ -203,37 +179,33 @@ fn use_up(h: &mut [u32; MOVING])
 // The tests of a step after 1 and 2, and the instruction. A run has tested the sizes and the warp once, and every step keeps them.
 // It has one caller, the loop of a run: the compiler then makes one function of loop, decoder and handlers (docs/SPEED.md).
 pub fn step(
-    h: &mut [u32; MOVING],
-    g: &[u32; FIXED],
-    x: &mut [u32; SCALARS],
-    s: &mut [u32; FLAT],
+    ws: &mut WarpWords,
     k: &[u32],
     v: &mut [u32],
     d: &mut [u8],
     l: &mut [u8],
-) -> u32
-    requires { Started k.now (lists g.now h.old x.old s.old v.old (contents d.old l.old)) }
-    ensures { Handles (step_of k.now) result (lists g.now h.old x.old s.old v.old (contents d.old l.old)) (lists g.now h.new x.new s.new v.new (contents d.new l.new)) }
+) -> Result<(), Refusal>
+    requires { Started k.now (lists ws.old.fixed ws.old.moving ws.old.scalars ws.old.splits v.old (contents d.old l.old)) }
+    ensures { (ws.new.fixed ≡ ws.old.fixed) × Handles (step_of k.now) (number_of result) (lists ws.old.fixed ws.old.moving ws.old.scalars ws.old.splits v.old (contents d.old l.old)) (lists ws.new.fixed ws.new.moving ws.new.scalars ws.new.splits v.new (contents d.new l.new)) }
 {
-    let f = fetch(h, g, k);
-    let code = f.code;
-    if code != 0 {
-        return code;
+    let w = fetch(&ws.moving, &ws.fixed, k)?;
+    let wide = widened(&ws.moving, w)?;
+    let kind = ws.moving[PREFIX];
+    let bits = ws.moving[BITS];
+    use_up(&mut ws.moving);
+    let done = exec(
+        &mut ws.moving,
+        &ws.fixed,
+        &mut ws.scalars,
+        &mut ws.splits,
+        v,
+        d,
+        l,
+        decoder::kind(w),
+        wide,
+    );
+    if done.is_err() {
+        running::put_prefix(&mut ws.moving, kind, bits);
     }
-    let w = f.word;
-    let wide = widened(h, w);
-    let refused = wide.code;
-    if refused != 0 {
-        return refused;
-    }
-    let z = wide.word;
-    let kind = h[PREFIX];
-    let bits = h[BITS];
-    use_up(h);
-    let c = exec(h, g, x, s, v, d, l, decoder::kind(w), z);
-    if c == 0 {
-        return answer::DONE;
-    }
-    running::put_prefix(h, kind, bits);
-    c
+    done
 }

@@ -1,7 +1,7 @@
 // Files by name or by argument, and the printout of three to standard output. What the printout says is `printout`'s.
 #![tactic(auto)]
 
-ghost use Rattle.io.specs.Counts.{IsPrefixLen};
+ghost use Rattle.std.specs.Prelude.{◌≤◌, length};
 
 use launch_files::{DATA_BYTES, KERNEL_BYTES};
 use printout::ROOM;
@@ -9,7 +9,7 @@ use std::env::FillError;
 use std::fs::OpenOptions;
 use std::io::{Read, Write};
 use std::rt::{Env, Files};
-use std::{fs, str};
+use std::{fs, io, str};
 
 // A byte to spare, by which a file that is too large is noticed.
 pub const CARD_BUFFER: usize = 51;
@@ -21,42 +21,37 @@ pub const DATA_BUFFER: usize = DATA_BYTES + 1;
 // The longest path that the system takes, and a byte to spare.
 const PATH_BUFFER: usize = 4096;
 
-// Reads until the buffer is full, the input ends or a read fails, and answers how many bytes stand at the buffer's start.
-fn read_full(file: &mut impl Read, buffer: &mut [u8]) -> usize
-    ensures { IsPrefixLen result buffer.new }
+// A whole vector file.
+pub const VECTOR_WORDS: usize = 8192;
+
+// Reads until the buffer is full, the input ends or a read fails; the answer, here and below, is the buffer's start that holds what was read.
+fn read_full<'b>(file: impl Read + Drop, buffer: &'b mut [u8]) -> &'b mut [u8]
+    ensures { length result.now ≤ length buffer.old }
 {
-    let mut done = 0;
-    while done < buffer.len() {
-        match file.read(&mut buffer[done..]) {
-            Ok(0) | Err(_) => break,
-            Ok(n) => done += n,
-        }
-    }
-    done
+    let room = buffer.len();
+    let mut rest = &mut *buffer;
+    // Where it fails, what was read before is in the buffer all the same.
+    let _ = io::copy(&mut file.take(room as u64), &mut rest);
+    let left = rest.len();
+    &mut buffer[..room.saturating_sub(left)]
 }
 
 // A file's first bytes, as many as `buffer` holds: none where it cannot be opened, and those before the read that fails where one does.
-pub fn read_file(rt: &impl Files, path: &[u8], buffer: &mut [u8]) -> usize
-    ensures { IsPrefixLen result buffer.new }
+pub fn read_file<'b>(rt: &impl Files, path: &str, buffer: &'b mut [u8]) -> &'b mut [u8]
+    ensures { length result.now ≤ length buffer.old }
 {
-    // A name that is not text is one that std cannot open.
-    let Ok(name) = str::from_utf8(path) else {
-        return 0;
-    };
-    match fs::open(rt, name) {
-        Ok(mut file) => read_full(&mut file, buffer),
-        Err(_) => 0,
+    match fs::open(rt, path) {
+        Ok(file) => read_full(file, buffer),
+        Err(_) => &mut [],
     }
 }
 
-// The program's argument i, argument 0 its name: none of it where it is missing or longer than `buffer`.
-pub fn argument(rt: &impl Env, i: usize, buffer: &mut [u8]) -> usize
-    ensures { IsPrefixLen result buffer.new }
+// The program's argument i, argument 0 its name: none of it where it is missing or longer than `buffer`. It need not be text.
+pub fn argument<'b>(rt: &impl Env, i: usize, buffer: &'b mut [u8]) -> &'b mut [u8]
+    ensures { length result.now ≤ length buffer.old }
 {
-    match rt.arg(i, buffer) {
-        Ok(n) => n,
-        Err(_) => 0,
-    }
+    let n = rt.arg(i, buffer).unwrap_or(0);
+    &mut buffer[..n]
 }
 
 // How many arguments the program was started with, its own name among them.
@@ -69,13 +64,15 @@ pub fn argument_count(rt: &impl Env) -> usize {
     usize::MAX
 }
 
-// The same as `read_file` of the file that the program's argument i names.
-pub fn read_argument(rt: &(impl Files + Env), i: usize, buffer: &mut [u8]) -> usize
-    ensures { IsPrefixLen result buffer.new }
+// The same as `read_file` of the file that the program's argument i names. A name that is not text is one that std cannot open.
+pub fn read_argument<'b>(rt: &(impl Files + Env), i: usize, buffer: &'b mut [u8]) -> &'b mut [u8]
+    ensures { length result.now ≤ length buffer.old }
 {
     let mut path = [0u8; PATH_BUFFER];
-    let n = argument(rt, i, &mut path);
-    read_file(rt, &path[..n], buffer)
+    match str::from_utf8(argument(rt, i, &mut path)) {
+        Ok(path) => read_file(rt, path, buffer),
+        Err(_) => &mut [],
+    }
 }
 
 // Bytes to standard output. What a write that fails should have written is lost.
@@ -107,26 +104,15 @@ pub fn tell_failure(rt: &impl Files) {
 }
 
 // The printout of three files by name.
-pub fn run_files(
-    rt: &(impl Files + Print),
-    card: &[u8],
-    kernel: &[u8],
-    bytes: &[u8],
-    vector: &mut [u32],
-) {
-    let mut cards = [0u8; CARD_BUFFER];
-    let mut kernels = [0u8; KERNEL_BUFFER];
+pub fn run_files(rt: &(impl Files + Print), card: &str, kernel: &str, bytes: &str) {
+    let mut card_buffer = [0u8; CARD_BUFFER];
+    let mut kernel_buffer = [0u8; KERNEL_BUFFER];
     let mut memory = [0u8; DATA_BUFFER];
+    let mut vector = [0u32; VECTOR_WORDS];
     let mut out = [0u8; ROOM];
-    let c = read_file(rt, card, &mut cards);
-    let k = read_file(rt, kernel, &mut kernels);
-    let b = read_file(rt, bytes, &mut memory);
-    let n = printout::print_files(
-        &cards[..c],
-        &kernels[..k],
-        &mut memory[..b],
-        vector,
-        &mut out,
-    );
+    let card = read_file(rt, card, &mut card_buffer);
+    let kernel = read_file(rt, kernel, &mut kernel_buffer);
+    let bytes = read_file(rt, bytes, &mut memory);
+    let n = printout::print_files(card, kernel, bytes, &mut vector, &mut out);
     print_bytes(rt, &out[..n]);
 }

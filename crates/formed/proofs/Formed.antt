@@ -6,7 +6,9 @@ use mathlib.Core.List.{List, [], ◌∷◌}
 use native.Mathlib.Omega.{arith}
 use native.Mathlib.Numerals.{add-one}
 use lib.Dec.{eqb, ltb}
-use lib.ListN.{get_or, drop, length}
+use lib.ListN.{get_or, drop, length, drop_of_length-le}
+use lib.Seq.{drop-cons}
+use Rattle.std.specs.List.{fold}
 use lib.Bits.{bit_or, or_zero_l, or_add_and, and_le_r}
 use borrow.Author.Tests.{ne_eqb, eqb-true, le-leb, lt-leb}
 use Rattle.answer.proofs.Rows.{both, every_at}
@@ -16,8 +18,10 @@ use Rattle.warp.specs.declared.Warp.{Warp}
 use Rattle.warp.specs.Warp.{split_count, aligned}
 use Rattle.warp.specs.WellFormed.{fixed_ok_of, split_ok_of, chain_of, is_zero, all_zero, prefix_ok_of, well_formed_of}
 use Rattle.warp.proofs.Chain.{chain_step, chain_end, zero_step, zero_end}
-use Rattle.layout.specs.Words.{split_size, flat_count, is_set, is_flag, depth_in, pc_in, mask_in, ended_in, waiting_in, prefix_in, fixed_in, phase_at, split_at, splits_in, warp_of, phases_ok_of, sound_of, splits_words, moving_words, fixed_words}
+use Rattle.layout.specs.Words.{split_size, flat_count, is_set, is_flag, depth_in, pc_in, mask_in, ended_in, waiting_in, prefix_in, fixed_in, phase_at, split_at, splits_in, warp_of, phases_ok_of, sound_of}
 use Rattle.layout.proofs.Splits.{splits_length, splits_get, phases_step}
+use Rattle.layout.specs.declared.WarpWords.{WarpWords}
+use Rattle.layout.specs.Parts.{parts_of, warp_from, sound_from}
 use Rattle.layout.proofs.Words.{apart, apart_sound}
 
 -- ---- the open splits
@@ -60,17 +64,14 @@ or_zero : (a b : ℕ) → eqb (bit_or a b) 0 ≡ (eqb a 0 && eqb b 0)
 or_zero zero b = rw (or_zero_l b)
 or_zero (suc a) b = rw (ne_eqb (suc a) 0 (λ e. omega arith)) (ne_eqb (bit_or (suc a) b) 0 (λ e. omega (arith, or_add_and (suc a) b, and_le_r (suc a) b)))
 
--- a turn of the loop that gathers the bits of all, and its end
-pub gather : (s : List ℕ) (any i : ℕ) → i < flat_count
-    → (eqb any 0 && zeros_from s i (flat_count - i)) ≡ (eqb (bit_or any (get_or s i 0)) 0 && zeros_from s (i + 1) (flat_count - (i + 1)))
+-- the bits of all words from i on, gathered onto those of `any`
+pub gathered : (n : ℕ) (s : List ℕ) (any i : ℕ) → i + n ≡ length s → eqb (fold bit_or any (drop i s)) 0 ≡ (eqb any 0 && zeros_from s i n)
 unfolding zeros_from
-gather s any i h =
-    let n : flat_count - i ≡ suc (flat_count - (i + 1)) = omega arith in
-    rw (n, or_zero any (get_or s i 0)) (sym (and_assoc (eqb any 0) (eqb (get_or s i 0) 0) (zeros_from s (i + 1) (flat_count - (i + 1)))))
-
-pub gathered : (s : List ℕ) (any i : ℕ) → flat_count ≤ i → (eqb any 0 && zeros_from s i (flat_count - i)) ≡ eqb any 0
-unfolding zeros_from
-gathered s any i h = let n : flat_count - i ≡ 0 = omega arith in rw n (and-true (eqb any 0))
+gathered zero s any i e = rw (drop_of_length-le s {i = i} (omega arith), and-true (eqb any 0))
+gathered (suc n) s any i e =
+    let w : ℕ = get_or s i 0 in
+    ap (λ (l : List ℕ). eqb (fold bit_or any l) 0) (drop-cons s i 0 (omega arith)) ∙ gathered n s (bit_or any w) (suc i) (omega arith)
+    ∙ rw (or_zero any w, add-one) (and_assoc (eqb any 0) (eqb w 0) (zeros_from s (suc i) n))
 
 same_zero : (n : ℕ) → not (is_set n) ≡ eqb n 0
 same_zero n = not_not (eqb n 0)
@@ -160,6 +161,5 @@ unfolding well_formed_of
 deep_malformed w d = simp (lt-leb _ _ d, and-false)
 
 -- a warp's words pass the test where it is well formed
-pub apart_formed : (w : Warp) → length w.splits ≡ split_count → w.depth ≤ split_count → (g h s : List ℕ) → g ≡ fixed_words w.fixed → h ≡ moving_words w → s ≡ splits_words w.splits
-    → (sound_of h s && well_formed_of (warp_of g h w.x s)) ≡ well_formed_of w
-apart_formed w l d g h s eg eh es = rw (eg, eh, es, apart_sound w l d, apart w l)
+pub apart_formed : (w : Warp) → length w.splits ≡ split_count → w.depth ≤ split_count → (p : WarpWords) → p ≡ parts_of w → (sound_from p && well_formed_of (warp_from p)) ≡ well_formed_of w
+apart_formed w l d p e = rw (e, apart_sound w l d, apart w l)

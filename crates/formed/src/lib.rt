@@ -5,11 +5,12 @@ ghost use Rattle.std.specs.Prelude.{◌≡◌, ◌&&◌, cond, ◌+◌, ◌-◌,
 ghost use Rattle.isa.specs.Prefix.{prefix};
 ghost use Rattle.warp.specs.Warp.{split_count};
 ghost use Rattle.warp.specs.WellFormed.{split_ok_of, chain_of, all_zero, prefix_ok_of, well_formed_of};
-ghost use Rattle.layout.specs.Words.{is_set, is_flag, phase_at, split_at, splits_in, warp_of, phases_ok_of, sound_of};
+ghost use Rattle.layout.specs.Words.{is_set, is_flag, phase_at, split_at, splits_in, phases_ok_of};
+ghost use Rattle.layout.specs.Parts.{warp_from, sound_from};
 
 use layout::{
-    BITS, DEPTH, ELSEMASK, ELSEPC, ENDED, FIXED, FLAT, FULL, LAUNCHMASK, MASK, MOVING, PC, PHASE,
-    PREFIX, SCALARS, SPLIT, WAITING, fixed_in, fixed_of, flat, moving_of, wide,
+    BITS, DEPTH, ELSEMASK, ELSEPC, ENDED, FLAT, FULL, LAUNCHMASK, MASK, PC, PHASE, PREFIX, SPLIT,
+    WAITING, WarpWords, fixed_in,
 };
 use warp::{SPLITS, Warp};
 
@@ -20,9 +21,10 @@ fn running_part(full: u32, e: u32, phase: u32) -> u32
     ensures { result ≡ cond (is_set phase) e (full - e) }
 {
     if phase != 0 {
-        return e;
+        e
+    } else {
+        full.saturating_sub(e)
     }
-    if e <= full { full - e } else { 0 }
 }
 
 // Open split k, whose running part is to be m.
@@ -45,9 +47,7 @@ fn chain_ok(s: &[u32; FLAT], depth: usize, mask: u32, launchMask: u32) -> bool
     ensures { result ≡ (phases_ok_of depth s.now && chain_of launchMask (splits_in s.now) depth mask) }
 {
     let mut m = mask;
-    let mut k = depth;
-    while 0 < k {
-        k = k - 1;
+    for k in (0..depth).rev() {
         if !open_ok(s, k, m) {
             return false;
         }
@@ -61,13 +61,7 @@ fn unused_ok(s: &[u32; FLAT], depth: usize) -> bool
     requires { depth ≤ split_count }
     ensures { result ≡ all_zero (drop depth (splits_in s.now)) }
 {
-    let mut any: u32 = 0;
-    let mut i = depth * SPLIT;
-    while i < FLAT {
-        any = any | s[i];
-        i = i + 1;
-    }
-    any == 0
+    s[depth * SPLIT..].iter().fold(0, |any, word| any | *word) == 0
 }
 
 // No prefix is pending, or one of the two kinds with 12 bits.
@@ -78,25 +72,27 @@ fn prefix_ok(kind: u32, bits: u32) -> bool
 }
 
 // A well-formed warp's words.
-pub fn words_ok(h: &[u32; MOVING], g: &[u32; FIXED], x: &[u32; SCALARS], s: &[u32; FLAT]) -> bool
-    ensures { result ≡ (sound_of h.now s.now && well_formed_of (warp_of g.now h.now x.now s.now)) }
+pub fn words_ok(w: &WarpWords) -> bool
+    ensures { result ≡ (sound_from w.now && well_formed_of (warp_from w.now)) }
 {
-    let depth = wide(h[DEPTH]);
+    let h = &w.moving;
+    let s = &w.splits;
+    let depth = h[DEPTH] as usize;
     if SPLITS < depth {
         return false;
     }
     let ended = h[ENDED];
     let waiting = h[WAITING];
-    let fixed = warp::fixed_ok(fixed_in(g));
+    let fixed = warp::fixed_ok(fixed_in(&w.fixed));
     let unused = unused_ok(s, depth);
-    let chain = chain_ok(s, depth, h[MASK], g[LAUNCHMASK]);
+    let chain = chain_ok(s, depth, h[MASK], w.fixed[LAUNCHMASK]);
     let stopped = (ended != 0) | (waiting != 0);
     let prefix = prefix_ok(h[PREFIX], h[BITS]);
     (ended <= 1)
         & ((waiting <= 1)
             & (fixed
                 & ((h[PC] % 4 == 0)
-                    & ((x[0] == 0)
+                    & ((w.scalars[0] == 0)
                         & (unused
                             & (!((ended != 0) & (waiting != 0))
                                 & (chain
@@ -110,11 +106,5 @@ pub fn well_formed(w: Warp) -> bool
     if SPLITS < w.depth {
         return false;
     }
-    let x = w.x;
-    let q = w.splits;
-    let f = w.fixed;
-    let h = moving_of(w);
-    let g = fixed_of(f);
-    let s = flat(q);
-    words_ok(&h, &g, &x, &s)
+    words_ok(&WarpWords::of(w))
 }

@@ -1,9 +1,10 @@
 -- Two allowed results of a call on warps are equal: the contract sees all of one but the warps past the count, which are kept.
 use Prim.Native.Nat.{ℕ}
-use mathlib.Core.Path.{◌≡◌, sym, ◌∙◌, ap, ap₂}
+use mathlib.Core.Path.{◌≡◌, refl, sym, ◌∙◌, ap, ap₂}
 use mathlib.Core.List.{List, ◌++◌}
 use lib.ListN.{take, drop, take-append-drop}
-use Rattle.answer.specs.declared.Answer.{Answer}
+use Rattle.std.specs.Prelude.{Result}
+use Rattle.answer.specs.declared.Refusal.{Refusal}
 use Rattle.answer.proofs.Numbers.{number_one}
 use Rattle.memory.specs.Memories.{Contents}
 use Rattle.warp.specs.declared.Warp.{Warp}
@@ -27,17 +28,17 @@ kept_one g a b v u c d p q e =
 pub held_step_determined : HeldStepDetermined
 held_step_determined k g v c r t a b =
     let e = a.is ∙ sym b.is in
-    let n : r.result.answer ≡ t.result.answer = number_one _ _ (ap (λ (o : GroupOutcome). o.code) e) in
+    let n : r.result.answer ≡ t.result.answer = number_one tt _ _ (ap (λ (o : GroupOutcome). o.code) e) refl in
     let h : r.result.group ≡ t.result.group = kept_one g _ _ _ _ _ _ a.kept b.kept (ap (λ (o : GroupOutcome). o.left) e) in
-    ap₂ (λ (x : Answer) (y : Group). record { result = record { answer = x; stopped = r.result.stopped; group = y }; vector = r.vector; bytes = r.bytes }) n h
+    ap₂ (λ (x : Result Unit Refusal) (y : Group). record { result = record { answer = x; stopped = r.result.stopped; group = y }; vector = r.vector; bytes = r.bytes }) n h
     ∙ ap (λ (o : GroupOutcome). record { result = record { answer = t.result.answer; stopped = o.stopped; group = t.result.group }; vector = o.left.vector; bytes = o.left.bytes }) e
 
 pub held_run_determined : HeldRunDetermined
 held_run_determined k d g v c r t a b =
     let e = a.is ∙ sym b.is in
-    let n : r.result.answer ≡ t.result.answer = number_one _ _ (ap (λ (o : GroupRan). o.ends.code) e) in
+    let n : r.result.answer ≡ t.result.answer = number_one tt _ _ (ap (λ (o : GroupRan). o.ends.code) e) refl in
     let h : r.result.group ≡ t.result.group = kept_one g _ _ _ _ _ _ a.kept b.kept (ap (λ (o : GroupRan). o.ends.left) e) in
-    ap₂ (λ (x : Answer) (y : Group). record { result = record { answer = x; stopped = r.result.stopped; steps = r.result.steps; group = y }; vector = r.vector; bytes = r.bytes }) n h
+    ap₂ (λ (x : Result Unit Refusal) (y : Group). record { result = record { answer = x; stopped = r.result.stopped; steps = r.result.steps; group = y }; vector = r.vector; bytes = r.bytes }) n h
     ∙ ap (λ (o : GroupRan). record { result = record { answer = t.result.answer; stopped = o.ends.stopped; steps = o.steps; group = t.result.group }; vector = o.ends.left.vector; bytes = o.ends.left.bytes }) e
 
 pub row_step_determined : RowStepDetermined

@@ -9,6 +9,9 @@ use lib.Dec.{eqb}
 use lib.ListN.{length, get_or, take, drop, set, replicate, length-append, length-drop, length-map}
 use lib.Seq.{take-append-add, take_at, take-suc-set, length-take-le, get_or-set_same, get_or-set_other}
 use borrow.Author.Tests.{eq-eqb, ne_eqb, eqb-true, eqb-false, not-true}
+use Rattle.std.specs.Prelude.{Result}
+use Rattle.std.specs.Result.{result_unwrap_or}
+use Rattle.answer.specs.declared.Refusal.{Refusal}
 use Rattle.answer.specs.Rows.{Row, ◌⇒◌, first}
 use Rattle.answer.proofs.Rows.{passed}
 use Rattle.memory.specs.Memories.{Contents}
@@ -18,8 +21,9 @@ use Rattle.warp.specs.declared.Warp.{Warp}
 use Rattle.warp.specs.Warp.{zero_fixed, zero_launch, zero_warp}
 use Rattle.warp.specs.WellFormed.{launch_ok_of}
 use Rattle.layout.specs.Words.{state_words, fixed_in, splits_words, fixed_words, words_of}
+use Rattle.layout.specs.declared.WarpWords.{WarpWords}
+use Rattle.layout.specs.Parts.{no_words}
 use Rattle.definition.specs.Calls.{launched_of}
-use Rattle.card.specs.declared.ReadCard.{ReadCard}
 use Rattle.card.specs.Card.{card_size, head_ok_at, launch_at, Reading, reading_of, read_card_of}
 use Rattle.card.proofs.CardLaws.{read_number, read_done, Readable, accepted}
 use Rattle.saved.specs.Saved.{Saving, saving, save_of}
@@ -29,10 +33,10 @@ use Rattle.lanes.specs.Lanes.{all_below}
 use Rattle.lanes.proofs.Laws.{below_at, below_all}
 use Rattle.group.specs.GroupRefuse.{warps_limit, sizes_ok_of, placed_of}
 use Rattle.group.specs.GroupCalls.{GroupOutcome, group_launch_of}
-use Rattle.group.proofs.GroupLaws.{by_test, by_equal}
+use Rattle.group.proofs.GroupLaws.{by_test, by_equal, get_d_map_in}
 use Rattle.group.proofs.GroupFacts.{GroupSizes, group_sizes}
 use Rattle.group_words.specs.Row.{words_at, tabulate, fixeds_in}
-use Rattle.group_words.proofs.Tabulate.{tab_length, tab_at, tab_same, tab_map}
+use Rattle.group_words.proofs.Tabulate.{tab_length, tab_at, tab_is, tab_map}
 use Rattle.group_launch.specs.GroupLaunchCall.{cards_in, card_at, reading_at, none_is, launches_of, is_group_state, group_launch_called, cards_launch_of, group_launch_number, group_blank_of, group_launch_call_of}
 use Rattle.group_words.specs.StateWords.{joined, state_words_of, group_words}
 use Rattle.group_words.proofs.StateWords.{joined_same}
@@ -48,18 +52,23 @@ state_is m n =
     by_equal (m % 241) 1 (λ a. by_equal (m / 241) n (λ b. absurd (e (omega arith))) (λ b. rw (eq-eqb _ _ a, ne_eqb _ _ b, ne_eqb _ _ e)))
     (λ a. rw (ne_eqb _ _ a, ne_eqb _ _ e)))
 
+-- ---- a card's launch
+
+pub launch_is : (r : Result Launch Refusal) (cs : List ℕ) (i : ℕ) (l : Launch) → reading_of r ≡ reading_at cs i → l ≡ result_unwrap_or r zero_launch → l ≡ (reading_at cs i).launch
+launch_is r cs i l er el = el ∙ ap (λ (x : Reading). x.launch) er
+
 -- ---- the words of a launched warp
 
 pub launched_long : (l : Launch) → length (words_of (launched_of l)) ≡ state_words
 unfolding words_of splits_words
 launched_long l = refl
 
-pub put_is : (r : ReadCard) (cs : List ℕ) (i : ℕ) (w : Warp) (a : ℕ) (p p' : List ℕ) → reading_of r ≡ reading_at cs i → w ≡ launched_of r.launch → length p ≡ state_words
+pub put_is : (l : Launch) (cs : List ℕ) (i : ℕ) (w : Warp) (a : ℕ) (p p' : List ℕ) → l ≡ (reading_at cs i).launch → w ≡ launched_of l → length p ≡ state_words
     → saving a p' ≡ save_of w p → p' ≡ words_of (launched_of (reading_at cs i).launch)
-put_is r cs i w a p p' er ew l es =
+put_is l cs i w a p p' el ew h es =
     let u : Warp = launched_of (reading_at cs i).launch in
-    let e : w ≡ u = ew ∙ ap (λ (x : Reading). launched_of x.launch) er in
-    ap (λ (t : Saving). t.state) es ∙ ap (λ (x : Warp). (save_of x p).state) e ∙ ap (λ (t : Saving). t.state) (sym (save_done u p l (omega arith)))
+    let e : w ≡ u = ew ∙ ap launched_of el in
+    ap (λ (t : Saving). t.state) es ∙ ap (λ (x : Warp). (save_of x p).state) e ∙ ap (λ (t : Saving). t.state) (sym (save_done u p h (omega arith)))
 
 -- ---- one part after another
 
@@ -88,21 +97,25 @@ joined_more s p q f i a b e h ep et =
 
 -- ---- what the cards fix
 
--- the first i of gs are the words of what the first i cards fix
-abbrev pub Fixing : ℕ → List (List ℕ) → List ℕ → Type 0
-Fixing i gs cs = (j : ℕ) → j < i → words_at gs j ≡ fixed_words (reading_at cs j).launch.fixed
+-- the fixed words of the first i of ws are what the first i cards fix
+abbrev pub Fixing : ℕ → List WarpWords → List ℕ → Type 0
+Fixing i ws cs = (j : ℕ) → j < i → (words_at ws j).fixed ≡ fixed_words (reading_at cs j).launch.fixed
 
-pub fixing_none : (gs : List (List ℕ)) (cs : List ℕ) → Fixing 0 gs cs
-fixing_none gs cs j h = absurd (omega arith)
+pub fixing_none : (ws : List WarpWords) (cs : List ℕ) → Fixing 0 ws cs
+fixing_none ws cs j h = absurd (omega arith)
 
-pub fixing_more : (i : ℕ) (gs : List (List ℕ)) (cs : List ℕ) (r : ReadCard) (g : List ℕ) → i < length gs → Fixing i gs cs → reading_of r ≡ reading_at cs i → g ≡ fixed_words r.launch.fixed → Fixing (i + 1) (set gs i g) cs
-fixing_more i gs cs r g h f er eg j l =
+pub fixing_more : (i : ℕ) (ws : List WarpWords) (cs : List ℕ) (l : Launch) (w : WarpWords) → i < length ws → Fixing i ws cs → l ≡ (reading_at cs i).launch → w.fixed ≡ fixed_words l.fixed → Fixing (i + 1) (set ws i w) cs
+fixing_more i ws cs l w h f el eg j b =
     by_equal j i
-    (λ q. subst (λ (k : ℕ). words_at (set gs i g) k ≡ fixed_words (reading_at cs k).launch.fixed) (sym q) (get_or-set_same gs i g [] h ∙ eg ∙ ap (λ (x : Reading). fixed_words x.launch.fixed) er))
-    (λ q. get_or-set_other gs i j g [] q ∙ f j (omega arith))
+    (λ q.
+    subst (λ (k : ℕ). (words_at (set ws i w) k).fixed ≡ fixed_words (reading_at cs k).launch.fixed) (sym q)
+    (rw (get_or-set_same ws i w no_words h) (eg ∙ ap (λ (x : Launch). fixed_words x.fixed) el)))
+    (λ q. rw (get_or-set_other ws i j w no_words q) (f j (omega arith)))
 
-pub fixing_all : (n : ℕ) (gs : List (List ℕ)) (cs : List ℕ) → Fixing n gs cs → fixeds_in n gs ≡ tabulate n (λ i. (reading_at cs i).launch.fixed)
-fixing_all n gs cs f = tab_same n (λ i. fixed_in (words_at gs i)) (λ i. (reading_at cs i).launch.fixed) zero_fixed (λ i h. ap fixed_in (f i h))
+pub fixing_all : (n : ℕ) (ws : List WarpWords) (cs : List ℕ) → length ws ≡ n → Fixing n ws cs → fixeds_in ws ≡ tabulate n (λ i. (reading_at cs i).launch.fixed)
+fixing_all n ws cs e f =
+    tab_is n (λ i. (reading_at cs i).launch.fixed) zero_fixed (fixeds_in ws) (length-map ws (λ (w : WarpWords). fixed_in w.fixed) ∙ e)
+    (λ i h. get_d_map_in (λ (w : WarpWords). fixed_in w.fixed) ws i no_words zero_fixed (rw e h) ∙ ap fixed_in (f i h))
 
 -- ---- a refused launch's state
 

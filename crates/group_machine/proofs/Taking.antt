@@ -1,133 +1,121 @@
--- The loops that take a group's warps apart and put them together.
-use Prim.Native.Nat.{ℕ, zero, suc, ◌+◌, ◌-◌, ◌≤◌, ◌<◌}
+-- A group's warps taken apart and put together.
+use Prim.Native.Nat.{ℕ, zero, suc, ◌+◌, ◌≤◌, ◌<◌}
 use mathlib.Core.Path.{◌≡◌, refl, sym, ap, ◌∙◌, subst}
 use mathlib.Core.Bool.{true}
-use mathlib.Core.List.{List, [], ◌∷◌, map}
+use mathlib.Core.List.{List, [], ◌∷◌, ◌++◌, map}
 use native.Mathlib.Nat.{le_of_suc-le-suc, not-suc-le-zero}
 use native.Mathlib.Omega.{arith}
-use lib.ListN.{length, get_or, set, take, drop, length-set, length-map, length-drop}
-use lib.Seq.{get_or-set_same, get_or-set_other, get_or-take, get_or-drop, length-take-le, ext_get_or}
+use lib.ListN.{length, get_or, set, take, drop, length-append, length-drop, length-map}
+use lib.Seq.{get_or-set_same, get_or-set_other, take_at, drop_at, length-take-le, ext_get_or}
 use borrow.Author.Tests.{leb-true}
+use Rattle.std.specs.List.{list_all}
 use Rattle.memory.specs.Memories.{Contents}
 use Rattle.warp.specs.declared.Warp.{Warp}
 use Rattle.warp.specs.Warp.{zero_warp, zero_fixed}
+use Rattle.layout.specs.declared.WarpWords.{WarpWords}
 use Rattle.layout.specs.Words.{fixed_in, fixed_words}
+use Rattle.layout.specs.Parts.{no_words, warp_from, sound_from}
 use Rattle.layout.proofs.Words.{apart, apart_sound, flat_long}
 use Rattle.group.specs.Group.{group, fixeds_of}
-use Rattle.lanes.specs.Lanes.{all_below}
-use Rattle.lanes.proofs.Laws.{below_at}
 use Rattle.group.specs.GroupRefuse.{warps_limit}
 use Rattle.group.proofs.GroupLaws.{by_equal, get_d_map_in}
-use Rattle.group_words.specs.Row.{Row, row, words_at, warp_in, warps_in, fixeds_in, all_sound, Rooms}
-use Rattle.group_words.proofs.Tabulate.{tab_is}
-use Rattle.group_words.proofs.Sound.{at_sound}
-use Rattle.group_machine.specs.Held.{no_warp, shallow_at, Fixeds, ApartAt, Apart, Together}
+use Rattle.group_words.specs.Row.{words_at, warps_in, fixeds_in, all_sound, Rooms}
+use Rattle.group_words.proofs.Words.{warps_long, warp_is}
+use Rattle.group_words.proofs.Sound.{each_at, at_sound}
+use Rattle.group_machine.specs.Held.{no_warp, is_shallow, Fixeds, ApartAt, Apart}
 
 -- ---- one warp more
 
-pub fixeds_none : (ws : List Warp) (gs : List (List ℕ)) → length gs ≡ warps_limit → Fixeds 0 ws gs
-fixeds_none ws gs l = record { room = l; words = λ i h. absurd (omega arith) }
+pub fixeds_none : (us : List Warp) (ws : List WarpWords) → Fixeds 0 us ws
+fixeds_none us ws i h = absurd (omega arith)
 
-pub fixeds_on_lem : (i : ℕ) (ws : List Warp) (gs : List (List ℕ)) → Fixeds i ws gs → i < warps_limit → (g : List ℕ) → g ≡ fixed_words (get_or ws i no_warp).fixed → Fixeds (i + 1) ws (set gs i g)
-fixeds_on_lem i ws gs q b g e =
-    record {
-      room = length-set gs i g ∙ q.room;
-      words = λ j h.
-          by_equal j i
-          (λ z. subst (λ (k : ℕ). words_at (set gs i g) k ≡ fixed_words (get_or ws k no_warp).fixed) (sym z) (get_or-set_same gs i g [] (omega (arith, q.room)) ∙ e))
-          (λ z. get_or-set_other gs i j g [] z ∙ q.words j (omega arith));
-    }
+pub fixeds_more : (i : ℕ) (us : List Warp) (ws : List WarpWords) → Fixeds i us ws → i < length ws → (w : WarpWords) → w.fixed ≡ fixed_words (get_or us i no_warp).fixed → Fixeds (i + 1) us (set ws i w)
+fixeds_more i us ws q b w e j h =
+    by_equal j i
+    (λ z. subst (λ (k : ℕ). (words_at (set ws i w) k).fixed ≡ fixed_words (get_or us k no_warp).fixed) (sym z) (rw (get_or-set_same ws i w no_words b) e))
+    (λ z. rw (get_or-set_other ws i j w no_words z) (q j (omega arith)))
 
-pub apart_none : (ws : List Warp) (hs xs ss : List (List ℕ)) → length hs ≡ warps_limit → length xs ≡ warps_limit → length ss ≡ warps_limit → Apart 0 ws hs xs ss
-apart_none ws hs xs ss lh lx ls = record { moving = lh; scalars = lx; splits = ls; words = λ i h. absurd (omega arith) }
+pub apart_none : (us : List Warp) (ws : List WarpWords) → Apart 0 us ws
+apart_none us ws i h = absurd (omega arith)
 
-pub apart_on : (i : ℕ) (ws : List Warp) (hs xs ss : List (List ℕ)) → Apart i ws hs xs ss → i < warps_limit → (h x s : List ℕ) → ApartAt (get_or ws i no_warp) h x s
-    → Apart (i + 1) ws (set hs i h) (set xs i x) (set ss i s)
-apart_on i ws hs xs ss q b h x s e =
-    record {
-      moving = length-set hs i h ∙ q.moving;
-      scalars = length-set xs i x ∙ q.scalars;
-      splits = length-set ss i s ∙ q.splits;
-      words = λ j l.
-          by_equal j i
-          (λ z.
-          subst (λ (k : ℕ). ApartAt (get_or ws k no_warp) (words_at (set hs i h) k) (words_at (set xs i x) k) (words_at (set ss i s) k)) (sym z)
-          (rw (get_or-set_same hs i h [] (omega (arith, q.moving)), get_or-set_same xs i x [] (omega (arith, q.scalars)), get_or-set_same ss i s [] (omega (arith, q.splits))) e))
-          (λ z. rw (get_or-set_other hs i j h [] z, get_or-set_other xs i j x [] z, get_or-set_other ss i j s [] z) (q.words j (omega arith)));
-    }
+pub apart_more : (i : ℕ) (us : List Warp) (ws : List WarpWords) → Apart i us ws → i < length ws → (w : WarpWords) → ApartAt (get_or us i no_warp) w → Apart (i + 1) us (set ws i w)
+apart_more i us ws q b w e j h =
+    by_equal j i (λ z. subst (λ (k : ℕ). ApartAt (get_or us k no_warp) (words_at (set ws i w) k)) (sym z) (rw (get_or-set_same ws i w no_words b) e))
+    (λ z. rw (get_or-set_other ws i j w no_words z) (q j (omega arith)))
 
-pub together_none : (ws : List Warp) (a : Row) → length ws ≡ warps_limit → Together 0 ws a ws
-together_none ws a l = record { full = l; room = refl; put = λ i h. absurd (omega arith); rest = λ i h. refl }
+-- the first n of the warps us are those that the words ws stand for
+abbrev pub Together : ℕ → List WarpWords → List Warp → Type 0
+Together n ws us = (i : ℕ) → i < n → get_or us i no_warp ≡ warp_from (words_at ws i)
 
-pub together_on : (i : ℕ) (ws : List Warp) (a : Row) (us : List Warp) → Together i ws a us → i < warps_limit → (u : Warp) → u ≡ warp_in a i → Together (i + 1) ws a (set us i u)
-together_on i ws a us q b u e =
-    record {
-      full = q.full;
-      room = length-set us i u ∙ q.room;
-      put = λ j h.
-          by_equal j i
-          (λ z. subst (λ (k : ℕ). get_or (set us i u) k no_warp ≡ warp_in a k) (sym z) (get_or-set_same us i u no_warp (omega (arith, q.room, q.full)) ∙ e))
-          (λ z. get_or-set_other us i j u no_warp z ∙ q.put j (omega arith));
-      rest = λ j h. get_or-set_other us i j u no_warp (λ z. omega arith) ∙ q.rest j (omega arith);
-    }
+pub together_none : (ws : List WarpWords) (us : List Warp) → Together 0 ws us
+together_none ws us i h = absurd (omega arith)
+
+pub together_more : (i : ℕ) (ws : List WarpWords) (us : List Warp) → Together i ws us → i < length us → (u : Warp) → u ≡ warp_from (words_at ws i) → Together (i + 1) ws (set us i u)
+together_more i ws us q b u e j h =
+    by_equal j i (λ z. subst (λ (k : ℕ). get_or (set us i u) k no_warp ≡ warp_from (words_at ws k)) (sym z) (get_or-set_same us i u no_warp b ∙ e))
+    (λ z. get_or-set_other us i j u no_warp z ∙ q j (omega arith))
+
+pub together_all : (ws : List WarpWords) (us : List Warp) → length us ≡ length ws → Together (length ws) ws us → us ≡ warps_in ws
+together_all ws us e q =
+    ext_get_or no_warp us (warps_in ws) (e ∙ sym (warps_long ws))
+    (λ i h. let b : i < length ws = rw e at h in q i b ∙ sym (get_d_map_in warp_from ws i no_words no_warp b))
 
 -- ---- all of them
 
 -- inside a list, it doesn't matter what stands for an element past its end
-get_d_any : {A : Type 0} (l : List A) (i : ℕ) (d e : A) → i < length l → get_or l i d ≡ get_or l i e
+pub get_d_any : {A : Type 0} (l : List A) (i : ℕ) (d e : A) → i < length l → get_or l i d ≡ get_or l i e
 get_d_any [] i d e h = absurd (not-suc-le-zero h)
 get_d_any (x ∷ xs) zero d e h = refl
 get_d_any (x ∷ xs) (suc i) d e h = get_d_any xs i d e (le_of_suc-le-suc h)
 
-module _ (n : ℕ) (ws : List Warp) (full : length ws ≡ warps_limit) (few : n ≤ warps_limit) where
-  pub taken_count : length (take n ws) ≡ n
-  taken_count = length-take-le n ws (omega arith)
+-- n words for the first n of the warps that a group has room for
+pub as_many : (m n : ℕ) (us : List Warp) → length us ≡ warps_limit → n ≤ warps_limit → m ≡ n → m ≡ length (take n us)
+as_many m n us full few e = e ∙ sym (length-take-le n us (omega (arith, full)))
 
-  pub taken_at : (i : ℕ) → i < n → get_or (take n ws) i zero_warp ≡ get_or ws i no_warp
-  taken_at i h = get_or-take n ws i zero_warp h ∙ get_d_any ws i zero_warp no_warp (omega arith)
+module _ (us : List Warp) (ws : List WarpWords) (e : length ws ≡ length us) where
+  pub fixeds_are : Fixeds (length us) us ws → (t : ℕ) (v : List ℕ) (c : Contents) → fixeds_of (group t us v c) ≡ fixeds_in ws
+  fixeds_are f t v c =
+      ext_get_or zero_fixed (map (λ (u : Warp). u.fixed) us) (fixeds_in ws) (length-map us (λ (u : Warp). u.fixed) ∙ sym e ∙ sym (length-map ws (λ (w : WarpWords). fixed_in w.fixed)))
+      (λ i h.
+      let b : i < length us = rw (length-map us (λ (u : Warp). u.fixed)) at h in
+      get_d_map_in (λ (u : Warp). u.fixed) us i no_warp zero_fixed b
+      ∙ sym (ap fixed_in (f i b))
+      ∙ sym (get_d_map_in (λ (w : WarpWords). fixed_in w.fixed) ws i no_words zero_fixed (rw e b)))
 
-  module _ (gs : List (List ℕ)) (f : Fixeds n ws gs) where
-    pub fixeds_are : (t : ℕ) (v : List ℕ) (c : Contents) → fixeds_of (group t (take n ws) v c) ≡ fixeds_in n gs
-    fixeds_are t v c =
-        tab_is n (λ i. fixed_in (words_at gs i)) zero_fixed (map (λ (w : Warp). w.fixed) (take n ws)) (length-map (take n ws) (λ (w : Warp). w.fixed) ∙ taken_count)
+  module _ (q : Apart (length us) us ws) where
+    pub warps_are : warps_in ws ≡ us
+    warps_are =
+        ext_get_or zero_warp (warps_in ws) us (warps_long ws ∙ e)
         (λ i h.
-        get_d_map_in (λ (w : Warp). w.fixed) (take n ws) i zero_warp zero_fixed (rw taken_count h)
-        ∙ ap (λ (w : Warp). w.fixed) (taken_at i h)
-        ∙ sym (ap fixed_in (f.words i h)))
+        let o : i < length ws = rw (warps_long ws) at h in
+        let b : i < length us = rw e at o in
+        let a = q i b in
+        warp_is ws i o ∙ ap warp_from a.words ∙ apart (get_or us i no_warp) a.long ∙ get_d_any us i no_warp zero_warp b)
 
-    module _ (hs xs ss : List (List ℕ)) (q : Apart n ws hs xs ss) where
-      stands : (i : ℕ) → i < n → warp_in (row gs hs xs ss) i ≡ get_or ws i no_warp
-      stands i h =
-          let a = q.words i h in
-          rw (f.words i h, a.moving, a.scalars, a.splits) (apart (get_or ws i no_warp) a.long)
+    pub all_sound_lem : list_all is_shallow us ≡ true → all_sound ws ≡ true
+    all_sound_lem s =
+        at_sound ws
+        (λ i h.
+        let b : i < length us = rw e at h in
+        let a = q i b in
+        ap sound_from a.words ∙ apart_sound (get_or us i no_warp) a.long (leb-true _ _ (each_at is_shallow no_warp us s i b)))
 
-      pub warps_are : warps_in n (row gs hs xs ss) ≡ take n ws
-      warps_are = sym (tab_is n (warp_in (row gs hs xs ss)) zero_warp (take n ws) taken_count (λ i h. taken_at i h ∙ sym (stands i h)))
+    pub rooms_are : 1 ≤ length ws → length ws ≤ warps_limit → Rooms ws
+    rooms_are o few =
+        record {
+          some = o;
+          few = few;
+          long = λ i h. let b : i < length us = rw e at h in ap (λ (w : WarpWords). length w.moving) (q i b).words;
+          room = λ i h. let b : i < length us = rw e at h in let a = q i b in ap (λ (w : WarpWords). length w.splits) a.words ∙ flat_long (get_or us i no_warp) a.long;
+        }
 
-      pub all_sound_lem : all_below n (shallow_at ws) ≡ true → all_sound n (row gs hs xs ss) ≡ true
-      all_sound_lem s =
-          at_sound n (row gs hs xs ss)
-          (λ i h. let a = q.words i h in rw (a.moving, a.splits) (apart_sound (get_or ws i no_warp) a.long (leb-true _ _ (below_at n (shallow_at ws) s i h))))
+-- the first n elements of a list replaced
+module _ (n : ℕ) (s y : List Warp) (e : length y ≡ n) (h : n ≤ length s) where
+  pub front_taken : take n (y ++ drop n s) ≡ y
+  front_taken = take_at y (drop n s) n e
 
-      pub rooms_are : 1 ≤ n → Rooms n (row gs hs xs ss)
-      rooms_are o =
-          record {
-            some = o;
-            few = few;
-            fixed = f.room;
-            moving = q.moving;
-            scalars = q.scalars;
-            splits = q.splits;
-            long = λ i h. ap length (q.words i h).moving;
-            room = λ i h. ap length (q.words i h).splits ∙ flat_long (get_or ws i no_warp) (q.words i h).long;
-          }
+  pub front_dropped : drop n (y ++ drop n s) ≡ drop n s
+  front_dropped = drop_at y (drop n s) n e
 
-module _ (n : ℕ) (ws us : List Warp) (a : Row) (few : n ≤ warps_limit) (q : Together n ws a us) where
-  pub put_are : take n us ≡ warps_in n a
-  put_are =
-      tab_is n (warp_in a) no_warp (take n us) (length-take-le n us (omega (arith, q.room, q.full))) (λ i h. get_or-take n us i no_warp h ∙ q.put i h)
-
-  pub rest_are : drop n us ≡ drop n ws
-  rest_are =
-      ext_get_or no_warp (drop n us) (drop n ws) (length-drop n us ∙ ap (λ (l : ℕ). l - n) q.room ∙ sym (length-drop n ws))
-      (λ i h. get_or-drop n us i no_warp ∙ q.rest (n + i) (omega arith) ∙ sym (get_or-drop n ws i no_warp))
+  pub front_long : length (y ++ drop n s) ≡ length s
+  front_long = simp (length-append, length-drop, e) (omega arith)

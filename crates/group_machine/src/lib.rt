@@ -1,24 +1,22 @@
 // A whole group by value: its step and its run. Each answers for all inputs, and asks nothing of its caller.
 #![tactic(auto)]
 
-ghost use Rattle.std.specs.Prelude.{◌≡◌, true, ◌≤◌, ◌<◌, length};
+ghost use Rattle.std.specs.Prelude.{◌≡◌, Err, true, ◌≤◌, ◌<◌, length};
+ghost use Rattle.std.specs.List.{list_all};
 ghost use Rattle.answer.specs.Answer.{number_of};
 ghost use Rattle.memory.specs.Memories.{contents};
 ghost use Rattle.warp.specs.Warp.{split_count};
-ghost use Rattle.layout.specs.Words.{splits_words};
 ghost use Rattle.definition.specs.Calls.{budget_limit};
-ghost use Rattle.lanes.specs.Lanes.{all_below};
-ghost use Rattle.group.specs.GroupRefuse.{warps_limit};
 ghost use Rattle.group.specs.GroupCalls.{group_outcome, group_ran};
-ghost use Rattle.group_words.specs.Row.{row};
-ghost use Rattle.group_machine.specs.Held.{held, held_step_of, held_run_of, Kept, shallow_at, Fixeds, Apart, Together};
+ghost use Rattle.group_words.specs.Row.{warps_in};
+ghost use Rattle.group_machine.specs.Held.{held, held_step_of, held_run_of, Kept, is_shallow, Fixeds, ApartAt, Apart};
 
-use answer::{Answer, Refusal};
+use answer::Refusal;
 use group_words::WARPS;
-use layout::{FIXED, FLAT, MOVING, SCALARS};
+use layout::WarpWords;
 use warp::{SPLITS, Warp};
 
-// The first `count` warps are the group's.
+// The first `count` warps are the group's: room for 32 and a count, since there is no heap.
 #[derive(Clone, Copy)]
 pub struct Group {
     pub warps: [Warp; WARPS],
@@ -29,7 +27,7 @@ pub struct Group {
 // What a step leaves: its answer, the warp that stopped the group, and the group.
 #[derive(Clone, Copy)]
 pub struct GroupLeft {
-    pub answer: Answer,
+    pub answer: Result<(), Refusal>,
     pub stopped: u32,
     pub group: Group,
 }
@@ -37,7 +35,7 @@ pub struct GroupLeft {
 // What a run leaves; `steps` counts the steps that were taken.
 #[derive(Clone, Copy)]
 pub struct GroupRunLeft {
-    pub answer: Answer,
+    pub answer: Result<(), Refusal>,
     pub stopped: u32,
     pub steps: u32,
     pub group: Group,
@@ -45,93 +43,57 @@ pub struct GroupRunLeft {
 
 // ---- the warps taken apart, and put together
 
-// The words of a warp's split records, of which it has 31.
-fn split_words(w: Warp) -> [u32; FLAT]
-    ensures { (result ≡ splits_words w.splits) × (length w.splits ≡ split_count) }
+// The words of a warp, which has 31 split records.
+fn words_of(w: Warp) -> WarpWords
+    requires { w.depth ≤ split_count }
+    ensures { ApartAt w result }
 {
-    let q = w.splits;
-    layout::flat(q)
+    WarpWords::of(w)
 }
 
-fn fixeds(ws: [Warp; WARPS], n: usize, gs: &mut [[u32; FIXED]; WARPS])
-    requires { (n ≤ warps_limit) × (length gs.old ≡ warps_limit) }
-    ensures { Fixeds n ws gs.new }
+// What a launch fixed, of each warp.
+fn fixeds(warps: &[Warp], ws: &mut [WarpWords])
+    requires { length ws.old ≡ length warps.now }
+    ensures { Fixeds (length warps.now) warps.now ws.new }
 {
-    let mut i = 0;
-    while i < n {
-        let w = ws[i];
-        let f = w.fixed;
-        gs[i] = layout::fixed_of(f);
-        i += 1;
+    for (i, w) in ws.iter_mut().enumerate() {
+        let f = layout::fixed_of(warps[i].fixed);
+        w.fixed = f;
     }
 }
 
-// No one of n warps has more open splits than there is room for.
-fn shallow(ws: [Warp; WARPS], n: usize) -> bool
-    requires { n ≤ warps_limit }
-    ensures { result ≡ all_below n (shallow_at ws) }
+// No warp has more open splits than there is room for.
+fn shallow(warps: &[Warp]) -> bool
+    ensures { result ≡ list_all is_shallow warps.now }
 {
-    let mut i = 0;
-    while i < n {
-        let w = ws[i];
-        if SPLITS < w.depth {
-            return false;
-        }
-        i += 1;
-    }
-    true
+    warps.iter().all(|w| w.depth <= SPLITS)
 }
 
-fn apart(
-    ws: [Warp; WARPS],
-    n: usize,
-    hs: &mut [[u32; MOVING]; WARPS],
-    xs: &mut [[u32; SCALARS]; WARPS],
-    ss: &mut [[u32; FLAT]; WARPS],
-)
-    requires { (n ≤ warps_limit) × (all_below n (shallow_at ws) ≡ true) × (length hs.old ≡ warps_limit) × (length xs.old ≡ warps_limit) × (length ss.old ≡ warps_limit) }
-    ensures { Apart n ws hs.new xs.new ss.new }
+fn apart(warps: &[Warp], ws: &mut [WarpWords])
+    requires { (length ws.old ≡ length warps.now) × (list_all is_shallow warps.now ≡ true) }
+    ensures { Apart (length warps.now) warps.now ws.new }
 {
-    let mut i = 0;
-    while i < n {
-        let w = ws[i];
-        hs[i] = layout::moving_of(w);
-        ss[i] = split_words(w);
-        let x = w.x;
-        xs[i] = x;
-        i += 1;
+    for (i, w) in ws.iter_mut().enumerate() {
+        *w = words_of(warps[i]);
     }
 }
 
-fn together(
-    ws: [Warp; WARPS],
-    n: usize,
-    hs: &[[u32; MOVING]; WARPS],
-    gs: &[[u32; FIXED]; WARPS],
-    xs: &[[u32; SCALARS]; WARPS],
-    ss: &[[u32; FLAT]; WARPS],
-) -> [Warp; WARPS]
-    requires { n ≤ warps_limit }
-    ensures { Together n ws (row gs.now hs.now xs.now ss.now) result }
+fn together(ws: &[WarpWords], warps: &mut [Warp])
+    requires { length warps.old ≡ length ws.now }
+    ensures { warps.new ≡ warps_in ws.now }
 {
-    let mut us = ws;
-    let mut i = 0;
-    while i < n {
-        let x = xs[i];
-        let u = layout::together(&hs[i], &gs[i], x, &ss[i]);
-        us[i] = u;
-        i += 1;
+    for (i, w) in ws.iter().enumerate() {
+        warps[i] = w.warp();
     }
-    us
 }
 
 // ---- a run
 
-fn refused(r: Refusal, g: Group) -> GroupRunLeft
-    ensures { result ≡ record { answer = Answer.Refused r; stopped = 0; steps = 0; group = g } }
+fn refused(why: Refusal, g: Group) -> GroupRunLeft
+    ensures { result ≡ record { answer = Err why; stopped = 0; steps = 0; group = g } }
 {
     GroupRunLeft {
-        answer: Answer::Refused(r),
+        answer: Err(why),
         stopped: 0,
         steps: 0,
         group: g,
@@ -156,35 +118,29 @@ pub fn run(
     if n == 0 {
         return refused(Refusal::Size, g);
     }
-    let ws = g.warps;
-    let g0 = [0u32; FIXED];
-    let mut gs = [g0; WARPS];
-    fixeds(ws, n, &mut gs);
-    if !group_words::sizes_ok(&gs, kernel, vector, bytes, local, n) {
+    let warps = g.warps;
+    let zeros = WarpWords::zeros();
+    let mut all = [zeros; WARPS];
+    let ws = &mut all[..n];
+    fixeds(&warps[..n], ws);
+    if !group_words::sizes_ok(ws, kernel, vector, bytes, local) {
         return refused(Refusal::Size, g);
     }
-    if !shallow(ws, n) {
+    if !shallow(&warps[..n]) {
         return refused(Refusal::Malformed, g);
     }
-    let h0 = [0u32; MOVING];
-    let x0 = [0u32; SCALARS];
-    let s0 = [0u32; FLAT];
-    let mut hs = [h0; WARPS];
-    let mut xs = [x0; WARPS];
-    let mut ss = [s0; WARPS];
-    apart(ws, n, &mut hs, &mut xs, &mut ss);
+    apart(&warps[..n], ws);
     let turn = layout::wide(g.turn);
-    let end = group_drive::run_group(
-        &mut hs, &gs, &mut xs, &mut ss, kernel, vector, bytes, local, n, turn, budget,
-    );
-    let us = together(ws, n, &hs, &gs, &xs, &ss);
+    let end = group_drive::run_group(ws, kernel, vector, bytes, local, turn, budget);
+    let mut us = warps;
+    together(ws, &mut us[..n]);
     let left = Group {
         warps: us,
         count: n,
         turn: end.turn as u32,
     };
     GroupRunLeft {
-        answer: answer::answer_of(end.code),
+        answer: end.answer,
         stopped: end.stopped,
         steps: end.steps,
         group: left,
@@ -201,12 +157,10 @@ pub fn step(
 ) -> GroupLeft
     ensures { Kept g result.group × (group_outcome (number_of result.answer) result.stopped (held result.group vector.new (contents bytes.new local.new)) ≡ held_step_of kernel.now g vector.old (contents bytes.old local.old)) }
 {
-    let r = run(g, kernel, vector, bytes, local, 1);
-    let a = r.answer;
-    let u = r.group;
+    let end = run(g, kernel, vector, bytes, local, 1);
     GroupLeft {
-        answer: a,
-        stopped: r.stopped,
-        group: u,
+        answer: end.answer,
+        stopped: end.stopped,
+        group: end.group,
     }
 }

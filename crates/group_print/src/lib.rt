@@ -8,6 +8,7 @@ ghost use Rattle.text.specs.Puts.{Puts};
 ghost use Rattle.lines.specs.GroupLines.{group_room_needed};
 ghost use Rattle.group_print.specs.GroupPrint.{launched_lines, cards_code, group_files_ok, group_print_of};
 
+use answer::Refusal;
 use group_words::{FILE_WORDS, WARPS};
 use launch_files::{DATA_BYTES, KERNEL_BYTES, KERNEL_WORDS};
 use layout::STATE_WORDS;
@@ -81,7 +82,7 @@ pub fn print_group(
     ensures { IsPrefixLen result out.new × Puts out.old 0 (group_print_of cards.now kernel.now bytes.old local.old) out.new result }
 {
     if CARDS_BYTES < cards.len() {
-        return lines::put_code_line(out, answer::SIZE);
+        return lines::put_code_line(out, Refusal::Size.number());
     }
     if !files_ok(kernel, bytes, local) {
         return lines::put_code_line(out, cards_code(cards, bytes));

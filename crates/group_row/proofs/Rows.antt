@@ -1,13 +1,12 @@
 -- A lent run of warps, copied into a group by value and back.
-use Prim.Native.Nat.{ℕ, suc, ◌+◌, ◌≤◌, ◌<◌}
+use Prim.Native.Nat.{ℕ, ◌≤◌, ◌<◌}
 use mathlib.Core.Path.{◌≡◌, sym, ap, ◌∙◌}
 use mathlib.Core.Bool.{false}
-use mathlib.Core.List.{List, [], ◌∷◌, ◌++◌, append-nil, append_assoc}
-use native.Mathlib.Numerals.{add-one}
+use mathlib.Core.List.{List, ◌++◌, append-nil}
 use native.Mathlib.Omega.{arith}
 use lib.Dec.{ltb}
-use lib.ListN.{length, get_or, set, take, drop, replicate, length-append, length-drop, length-replicate, take-append-drop, drop_of_length-le}
-use lib.Seq.{set_at, take_at, take_all, take-take, take-suc, drop-cons, length-take-le}
+use lib.ListN.{length, take, drop, replicate, length-replicate, take-append-drop, drop_of_length-le}
+use lib.Seq.{take_at, take_all, take-take, length-take-le}
 use borrow.Author.Tests.{le-leb, lt-leb, lt-ltb, le-ltb, ltb-true, ltb-false}
 use Rattle.memory.specs.Memories.{Contents}
 use Rattle.warp.specs.declared.Warp.{Warp}
@@ -18,7 +17,7 @@ use Rattle.group.specs.GroupCalls.{GroupOutcome, group_outcome, group_step_of}
 use Rattle.group.proofs.GroupLaws.{by_test}
 use Rattle.group.proofs.GroupFacts.{group_sizes, count_fixeds}
 use Rattle.group.proofs.GroupCases.{group_step_size}
-use Rattle.group_machine.specs.Held.{no_warp, held, held_step_of, Kept}
+use Rattle.group_machine.specs.Held.{held, held_step_of, Kept}
 use Rattle.group_machine.specs.declared.Group.{Group}
 use Rattle.group_row.specs.Row.{room_of, held_of, overlaid}
 
@@ -29,25 +28,6 @@ room_few n h = rw (le-ltb warps_limit n h)
 
 pub room_many : (n : ℕ) → warps_limit < n → room_of n ≡ warps_limit
 room_many n h = rw (lt-ltb warps_limit n h)
-
-pub room_in : (n : ℕ) → (room_of n ≤ n) × (room_of n ≤ warps_limit)
-room_in n =
-    by_test (ltb warps_limit n) (λ e. rw e (omega (arith, ltb-true warps_limit n e), omega arith))
-    (λ e. rw e (omega arith, omega (arith, ltb-false warps_limit n e)))
-
--- ---- one list over another
-
-module _ (i : ℕ) (a b : List Warp) (ha : i < length a) (hb : i < length b) where
-  pub overlay_on : set (overlaid i a b) i (get_or a i no_warp) ≡ overlaid (i + 1) a b
-  overlay_on =
-      ap (λ (l : List Warp). set (take i a ++ l) i (get_or a i no_warp)) (drop-cons b i no_warp hb)
-      ∙ set_at (take i a) (get_or b i no_warp) (drop (suc i) b) (get_or a i no_warp) i (length-take-le i a (omega arith))
-      ∙ sym (append_assoc (take i a) (get_or a i no_warp ∷ []) (drop (suc i) b))
-      ∙ ap (λ (l : List Warp). l ++ drop (suc i) b) (sym (take-suc a i no_warp ha))
-      ∙ ap (λ (m : ℕ). overlaid m a b) (sym (add-one i))
-
-pub overlay_length : (i : ℕ) (a b : List Warp) → i ≤ length a → i ≤ length b → length (overlaid i a b) ≡ length b
-overlay_length i a b ha hb = length-append (take i a) (drop i b) ∙ omega (arith, length-take-le i a ha, length-drop i b)
 
 -- ---- a step
 

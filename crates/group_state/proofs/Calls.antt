@@ -10,7 +10,7 @@ use lib.Seq.{length-take-le, drop-drop}
 use borrow.Author.Tests.{eqb-true, leb-true, ltb-false}
 use Rattle.answer.specs.Rows.{first, between}
 use Rattle.answer.proofs.Rows.{both}
-use Rattle.lanes.proofs.Laws.{below_same, below_at}
+use Rattle.lanes.proofs.Laws.{below_at, below_all}
 use Rattle.memory.specs.Memories.{Contents}
 use Rattle.warp.specs.declared.Warp.{Warp}
 use Rattle.warp.specs.Warp.{zero_warp}
@@ -19,14 +19,17 @@ use Rattle.layout.proofs.Words.{together_words, parts_whole, split_long, moving_
 use Rattle.group.specs.Group.{Group, group, fixeds_of}
 use Rattle.group.specs.GroupRefuse.{warps_limit, sizes_ok_of}
 use Rattle.group.specs.GroupCalls.{group_outcome, GroupRan, group_ran, group_run_of}
-use Rattle.group.proofs.GroupLaws.{by_test}
+use Rattle.group.proofs.GroupLaws.{by_test, refute}
 use Rattle.group.proofs.GroupCases.{group_run_size, group_run_one}
-use Rattle.group_words.specs.Row.{Row, words_at, tabulate, warp_in, group_in as rowGroup, Rooms, all_sound, fixeds_in}
+use Rattle.layout.specs.declared.WarpWords.{WarpWords}
+use Rattle.layout.specs.Parts.{warp_from, sound_from, state_from}
+use Rattle.group_words.specs.Row.{words_at, tabulate, warps_in, group_in as rowGroup, Rooms, FixedKept, all_sound, fixeds_in}
 use Rattle.group_drive.specs.GroupDrives.{group_words_run_of, GroupRuns}
 use Rattle.group_words.specs.StateWords.{joined, state_words_of}
 use Rattle.group_words.proofs.StateWords.{joined_same}
-use Rattle.group_words.proofs.Tabulate.{tab_length, tab_at, tab_same}
-use Rattle.group_words.proofs.Sound.{sound_at_lem, fixeds_are}
+use Rattle.group_words.proofs.Tabulate.{tab_length, tab_at, tab_is}
+use Rattle.group_words.proofs.Words.{warps_long, warp_is}
+use Rattle.group_words.proofs.Sound.{sound_at, at_sound, fixeds_are}
 use Rattle.group_state.specs.GroupState.{count_in, is_group, words_in, group_in, all_sound_in, GroupCalled, group_called, group_words_tests, group_step_call_of, group_run_call_of}
 use Rattle.group_state.specs.Got.{Got, put_at}
 
@@ -87,52 +90,49 @@ module _ (s : List ℕ) (o : is_group s ≡ true) where
       ∙ whole
 
   -- ---- the words that were copied out of it
-  module _ (a : Row) (g : Got N s a) where
-    warp_is : (i : ℕ) → i < N → warp_in a i ≡ warpOn (words_in i s)
-    warp_is i h = rw (g.fixed i h, g.moving i h, g.scalars i h, g.splits i h)
+  module _ (a : List WarpWords) (l : length a ≡ N) (g : Got N s a) where
+    pub group_is : (v : List ℕ) (c : Contents) → rowGroup (get_or s 0 0) a v c ≡ group_in s v c
+    group_is v c =
+        ap (λ (ws : List Warp). group (get_or s 0 0) ws v c)
+        (tab_is N (λ i. warpOn (words_in i s)) zero_warp (warps_in a) (warps_long a ∙ l) (λ i h. warp_is a i (rw l h) ∙ ap warp_from (g i h)))
 
-    pub group_is : (v : List ℕ) (c : Contents) → rowGroup N (get_or s 0 0) a v c ≡ group_in s v c
-    group_is v c = ap (λ (ws : List Warp). group (get_or s 0 0) ws v c) (tab_same N (warp_in a) (λ i. warpOn (words_in i s)) zero_warp warp_is)
+    sound_is : all_sound a ≡ all_sound_in s
+    sound_is =
+        by_test (all_sound_in s) (λ y. at_sound a (λ i h. let b : i < N = rw l at h in rw (g i b) (below_at N (λ j. sound_in (words_in j s)) y i b)) ∙ sym y)
+        (λ y.
+        by_test (all_sound a) (λ z. refute (below_all N (λ j. sound_in (words_in j s)) (λ i h. ap sound_from (sym (g i h)) ∙ sound_at a z i (rw l h))) y) (λ z. z ∙ sym y))
 
-    sound_is : all_sound N a ≡ all_sound_in s
-    unfolding all_sound
-    sound_is = below_same N _ _ (λ i h. rw (g.moving i h, g.splits i h))
-
-    pub rooms_are : Rooms N a
+    pub rooms_are : Rooms a
     rooms_are =
         record {
-          some = state_some;
-          few = state_few;
-          fixed = g.halls.fixed;
-          moving = g.halls.moving;
-          scalars = g.halls.scalars;
-          splits = g.halls.splits;
-          long = λ i h. ap length (g.moving i h) ∙ moving_long (words_in i s) (word_long i h);
-          room = λ i h. ap length (g.splits i h) ∙ split_long (words_in i s) (word_long i h);
+          some = rw l state_some;
+          few = rw l state_few;
+          long = λ i h. let b : i < N = rw l at h in ap (λ (w : WarpWords). length w.moving) (g i b) ∙ moving_long (words_in i s) (word_long i b);
+          room = λ i h. let b : i < N = rw l at h in ap (λ (w : WarpWords). length w.splits) (g i b) ∙ split_long (words_in i s) (word_long i b);
         }
 
     -- put back as they are, they are the state
     pub put_same : get_or s 0 0 ∷ joined N (put_at a) ≡ s
     put_same =
-        ap (λ (r : List ℕ). get_or s 0 0 ∷ r)
-        (joined_same N (put_at a) (λ i. words_in i s) (λ i h. rw (g.fixed i h, g.moving i h, g.scalars i h, g.splits i h) (parts_whole (words_in i s) (word_long i h))))
-        ∙ whole
+        ap (λ (r : List ℕ). get_or s 0 0 ∷ r) (joined_same N (put_at a) (λ i. words_in i s) (λ i h. ap state_from (g i h) ∙ parts_whole (words_in i s) (word_long i h))) ∙ whole
 
     -- words of warps are the words of the group that they stand for
-    words_of_lem : (t : ℕ) (b : Row) (v : List ℕ) (c : Contents) → b.fixed ≡ a.fixed → Rooms N b → all_sound N b ≡ true → t ∷ joined N (put_at b) ≡ state_words_of (rowGroup N t b v c)
-    words_of_lem t b v c e r q =
+    words_of_lem : (t : ℕ) (b : List WarpWords) (v : List ℕ) (c : Contents) → length b ≡ N → FixedKept a b → Rooms b → all_sound b ≡ true → t ∷ joined N (put_at b) ≡ state_words_of (rowGroup t b v c)
+    words_of_lem t b v c m e r q =
         ap (λ (l : List ℕ). t ∷ l)
-        (joined_same N (put_at b) (λ i. words_of (get_or (tabulate N (warp_in b)) i zero_warp))
+        (joined_same N (put_at b) (λ i. words_of (get_or (warps_in b) i zero_warp))
         (λ i h.
+        let o : i < length b = rw m h in
+        let w : WarpWords = words_at b i in
         sym
-        (ap words_of (tab_at N (warp_in b) zero_warp i h)
-        ∙ together_words (words_at b.fixed i) (words_at b.moving i) (words_at b.scalars i) (words_at b.splits i)
-        (ap length (ap (λ (l : List (List ℕ)). words_at l i) e ∙ g.fixed i h) ∙ fixed_long (words_in i s) (word_long i h)) (r.long i h) (r.room i h) (sound_at_lem N b q i h)))
-        ∙ ap (λ (m : ℕ). joined m (λ i. words_of (get_or (tabulate N (warp_in b)) i zero_warp))) (sym (tab_length N (warp_in b))))
+        (ap words_of (warp_is b i o)
+        ∙ together_words w.fixed w.moving w.scalars w.splits
+        (ap length (e i) ∙ ap (λ (w : WarpWords). length w.fixed) (g i h) ∙ fixed_long (words_in i s) (word_long i h)) (r.long i o) (r.room i o) (sound_at b q i o)))
+        ∙ ap (λ (m : ℕ). joined m (λ i. words_of (get_or (warps_in b) i zero_warp))) (sym (warps_long b ∙ m)))
 
     -- ---- the call
-    module _ (k : List ℕ) (n c w u t : ℕ) (v : List ℕ) (d : Contents) (b : Row) (v' : List ℕ) (d' : Contents) (e : b.fixed ≡ a.fixed)
-        (q : GroupRuns k N (get_or s 0 0) n c w u t a v d b v' d') where
+    module _ (k : List ℕ) (n c w u t : ℕ) (v : List ℕ) (d : Contents) (b : List WarpWords) (v' : List ℕ) (d' : Contents)
+        (q : GroupRuns k (get_or s 0 0) n c w u t a v d b v' d') where
       abbrev told : ℕ → ℕ → List ℕ
       told x y = x ∷ y ∷ []
 
@@ -142,53 +142,53 @@ module _ (s : List ℕ) (o : is_group s ≡ true) where
       abbrev leaves : GroupRan → GroupCalled
       leaves r = group_called r.ends.code (state_words_of r.ends.left) r.ends.left.vector r.ends.left.bytes (told r.steps r.ends.stopped)
 
-      sizes_are : sizes_ok_of k (fixeds_of (group_in s v d)) v d ≡ sizes_ok_of k (fixeds_in N a.fixed) v d
-      sizes_are = ap (λ (m : Group). sizes_ok_of k (fixeds_of m) v d) (sym (group_is v d)) ∙ ap (λ (fs : List _). sizes_ok_of k fs v d) (fixeds_are N a (get_or s 0 0) v d)
+      sizes_are : sizes_ok_of k (fixeds_of (group_in s v d)) v d ≡ sizes_ok_of k (fixeds_in a) v d
+      sizes_are = ap (λ (m : Group). sizes_ok_of k (fixeds_of m) v d) (sym (group_is v d)) ∙ ap (λ (fs : List _). sizes_ok_of k fs v d) (fixeds_are a (get_or s 0 0) v d)
 
       -- what the words' run is, of warps' words and of others
-      runs_words : all_sound N a ≡ true → group_words_run_of k N (get_or s 0 0) n a v d ≡ group_run_of k n (rowGroup N (get_or s 0 0) a v d)
+      runs_words : all_sound a ≡ true → group_words_run_of k (get_or s 0 0) n a v d ≡ group_run_of k n (rowGroup (get_or s 0 0) a v d)
       unfolding group_words_run_of
       runs_words y = rw y
 
-      other_words : all_sound N a ≡ false
-          → group_words_run_of k N (get_or s 0 0) n a v d ≡ group_ran 0 (group_outcome (cond (sizes_ok_of k (fixeds_in N a.fixed) v d) 2 1) 0 (rowGroup N (get_or s 0 0) a v d))
+      other_words : all_sound a ≡ false
+          → group_words_run_of k (get_or s 0 0) n a v d ≡ group_ran 0 (group_outcome (cond (sizes_ok_of k (fixeds_in a) v d) 2 1) 0 (rowGroup (get_or s 0 0) a v d))
       unfolding group_words_run_of
       other_words y = rw y
 
       abbrev Sizes : Bool
       Sizes = sizes_ok_of k (fixeds_of (group_in s v d)) v d
 
-      same : all_sound N a ≡ true → state_words_of (group_in s v d) ≡ s
+      same : all_sound a ≡ true → state_words_of (group_in s v d) ≡ s
       same y = state_back v d (sym sound_is ∙ y)
 
-      sound_leaves : all_sound N a ≡ true → (z : Bool) → Sizes ≡ z → leaves (group_run_of k n (group_in s v d)) ≡ group_run_call_of s k n v d (told 0 0)
+      sound_leaves : all_sound a ≡ true → (z : Bool) → Sizes ≡ z → leaves (group_run_of k n (group_in s v d)) ≡ group_run_call_of s k n v d (told 0 0)
       unfolding group_run_call_of
       sound_leaves y true z = rw (o, z, ← sound_is, y)
       sound_leaves y false z = rw (o, z, group_run_size k n (group_in s v d) z, same y)
 
-      other_leaves : all_sound N a ≡ false → (z : Bool) → Sizes ≡ z → group_called (cond z 2 1) s v d (told 0 0) ≡ group_run_call_of s k n v d (told 0 0)
+      other_leaves : all_sound a ≡ false → (z : Bool) → Sizes ≡ z → group_called (cond z 2 1) s v d (told 0 0) ≡ group_run_call_of s k n v d (told 0 0)
       unfolding group_run_call_of
       other_leaves y true z = rw (o, z, ← sound_is, y)
       other_leaves y false z = rw (o, z)
 
-      sound_call : all_sound N a ≡ true → Is ≡ group_run_call_of s k n v d (told 0 0)
+      sound_call : all_sound a ≡ true → Is ≡ group_run_call_of s k n v d (told 0 0)
       sound_call y =
-          ap (λ (l : List ℕ). group_called c l v' d' (told u w)) (words_of_lem t b v' d' e q.rooms (q.sound y))
+          ap (λ (l : List ℕ). group_called c l v' d' (told u w)) (words_of_lem t b v' d' (q.count ∙ l) q.fixed q.rooms (q.sound y))
           ∙ ap leaves (q.runs ∙ runs_words y ∙ ap (group_run_of k n) (group_is v d))
           ∙ sound_leaves y Sizes refl
 
-      other_call : all_sound N a ≡ false → Is ≡ group_run_call_of s k n v d (told 0 0)
+      other_call : all_sound a ≡ false → Is ≡ group_run_call_of s k n v d (told 0 0)
       other_call y =
           let p = q.kept y in
-          let x : ℕ = cond (sizes_ok_of k (fixeds_in N a.fixed) v d) 2 1 in
+          let x : ℕ = cond (sizes_ok_of k (fixeds_in a) v d) 2 1 in
           ap (λ (r : GroupRan). group_called r.ends.code (t ∷ joined N (put_at b)) v' d' (told r.steps r.ends.stopped)) (q.runs ∙ other_words y)
-          ∙ ap (λ (l : List ℕ). group_called x l v' d' (told 0 0)) (ap₂ (λ (m : ℕ) (z : Row). m ∷ joined N (put_at z)) p.1 p.0 ∙ put_same)
+          ∙ ap (λ (l : List ℕ). group_called x l v' d' (told 0 0)) (ap₂ (λ (m : ℕ) (z : List WarpWords). m ∷ joined N (put_at z)) p.1 p.0 ∙ put_same)
           ∙ ap₂ (λ (l : List ℕ) (z : Contents). group_called x s l z (told 0 0)) p.2 p.3
           ∙ ap (λ (z : Bool). group_called (cond z 2 1) s v d (told 0 0)) (sym sizes_are)
           ∙ other_leaves y Sizes refl
 
       pub call_is : Is ≡ group_run_call_of s k n v d (told 0 0)
-      call_is = by_test (all_sound N a) sound_call other_call
+      call_is = by_test (all_sound a) sound_call other_call
 
 -- the turn that is put back is the run's
 pub turn_is : (t n old turn at : ℕ) → ((t < n → ⊥) → t ≡ turn) → turn ≡ old → at ≡ cond (ltb t n) t old → at ≡ t
@@ -197,10 +197,10 @@ turn_is t n old turn at h e p =
     (λ q. p ∙ ap (λ (b : Bool). cond b t old) q ∙ sym e ∙ sym (h (λ l. let z = ltb-false t n q in omega (arith, z, l))))
 
 -- the call, where the run was handed the turn t₀
-pub call_at : (s : List ℕ) (o : is_group s ≡ true) (a : Row) → Got (count_in s) s a → (k : List ℕ) (n c w u t t₀ : ℕ) (v : List ℕ) (d : Contents) (b : Row) (v' : List ℕ) (d' : Contents)
-    → b.fixed ≡ a.fixed → t₀ ≡ get_or s 0 0 → GroupRuns k (count_in s) t₀ n c w u t a v d b v' d'
+pub call_at : (s : List ℕ) (o : is_group s ≡ true) (a : List WarpWords) → length a ≡ count_in s → Got (count_in s) s a → (k : List ℕ) (n c w u t t₀ : ℕ) (v : List ℕ) (d : Contents) (b : List WarpWords) (v' : List ℕ) (d' : Contents)
+    → t₀ ≡ get_or s 0 0 → GroupRuns k t₀ n c w u t a v d b v' d'
     → group_called c (t ∷ joined (count_in s) (put_at b)) v' d' (u ∷ w ∷ []) ≡ group_run_call_of s k n v d (0 ∷ 0 ∷ [])
-call_at s o a g k n c w u t t₀ v d b v' d' e z q = call_is s o a g k n c w u t v d b v' d' e (subst (λ (m : ℕ). GroupRuns k (count_in s) m n c w u t a v d b v' d') z q)
+call_at s o a l g k n c w u t t₀ v d b v' d' z q = call_is s o a l g k n c w u t v d b v' d' (subst (λ (m : ℕ). GroupRuns k m n c w u t a v d b v' d') z q)
 
 -- ---- the calls for C
 

@@ -4,41 +4,26 @@ use mathlib.Core.Path.{◌≡◌, refl, sym, ap, ◌∙◌, subst}
 use mathlib.Core.List.{List, [], ◌∷◌, ◌++◌, append_assoc, append-nil}
 use native.Mathlib.Numerals.{add-one}
 use native.Mathlib.Omega.{arith}
-use lib.ListN.{length, set, take, drop, length-set, length-append, drop_of_length-le, take-append-drop}
+use lib.ListN.{length, set, take, drop, length-append, drop_of_length-le, take-append-drop}
 use lib.Seq.{get_or-set_same, get_or-set_other, take_at, drop_at, drop-drop, length_front}
-use Rattle.group.specs.GroupRefuse.{warps_limit}
 use Rattle.group.proofs.GroupLaws.{by_equal}
-use Rattle.layout.specs.Words.{state_words, scalar_part, split_part, moving_part, fixed_part}
-use Rattle.group_words.specs.Row.{Row, row, words_at}
+use Rattle.layout.specs.declared.WarpWords.{WarpWords}
+use Rattle.layout.specs.Words.{state_words}
+use Rattle.layout.specs.Parts.{no_words, parts_in}
+use Rattle.group_words.specs.Row.{words_at}
 use Rattle.group_words.specs.StateWords.{joined}
 use Rattle.group_state.specs.GroupState.{words_in}
-use Rattle.group_state.specs.Got.{Halls, Got}
+use Rattle.group_state.specs.Got.{Got}
 
 -- ---- copied out
 
-one_more : (l : List (List ℕ)) (f : ℕ → List ℕ) (i : ℕ) (w : List ℕ) → i < length l → ((j : ℕ) → j < i → words_at l j ≡ f j) → w ≡ f i → (j : ℕ) → j < i + 1 → words_at (set l i w) j ≡ f j
-one_more l f i w b o e j h =
-    by_equal j i (λ q. subst (λ (k : ℕ). words_at (set l i w) k ≡ f k) (sym q) (get_or-set_same l i w [] b ∙ e)) (λ q. get_or-set_other l i j w [] q ∙ o j (omega arith))
+pub got_none : (s : List ℕ) (ws : List WarpWords) → Got 0 s ws
+got_none s ws i b = absurd (omega arith)
 
-pub got_none : (s : List ℕ) (a : Row) → Halls a → Got 0 s a
-got_none s a h = record { halls = h; fixed = λ i b. absurd (omega arith); moving = λ i b. absurd (omega arith); scalars = λ i b. absurd (omega arith); splits = λ i b. absurd (omega arith) }
-
-pub got_more : (i : ℕ) (s : List ℕ) (a : Row) → Got i s a → i < warps_limit → (h g x q : List ℕ)
-    → h ≡ moving_part (words_in i s) → g ≡ fixed_part (words_in i s) → x ≡ scalar_part (words_in i s) → q ≡ split_part (words_in i s)
-    → Got (i + 1) s (row (set a.fixed i g) (set a.moving i h) (set a.scalars i x) (set a.splits i q))
-got_more i s a o b h g x q eh eg ex eq =
-    record {
-      halls = record {
-        fixed = length-set a.fixed i g ∙ o.halls.fixed;
-        moving = length-set a.moving i h ∙ o.halls.moving;
-        scalars = length-set a.scalars i x ∙ o.halls.scalars;
-        splits = length-set a.splits i q ∙ o.halls.splits;
-      };
-      fixed = one_more a.fixed (λ j. fixed_part (words_in j s)) i g (omega (arith, o.halls.fixed)) o.fixed eg;
-      moving = one_more a.moving (λ j. moving_part (words_in j s)) i h (omega (arith, o.halls.moving)) o.moving eh;
-      scalars = one_more a.scalars (λ j. scalar_part (words_in j s)) i x (omega (arith, o.halls.scalars)) o.scalars ex;
-      splits = one_more a.splits (λ j. split_part (words_in j s)) i q (omega (arith, o.halls.splits)) o.splits eq;
-    }
+pub got_more : (i : ℕ) (s : List ℕ) (ws : List WarpWords) → Got i s ws → i < length ws → (w : WarpWords) → w ≡ parts_in (words_in i s) → Got (i + 1) s (set ws i w)
+got_more i s ws o b w e j h =
+    by_equal j i (λ q. subst (λ (k : ℕ). words_at (set ws i w) k ≡ parts_in (words_in k s)) (sym q) (get_or-set_same ws i w no_words b ∙ e))
+    (λ q. get_or-set_other ws i j w no_words q ∙ o j (omega arith))
 
 -- ---- put back
 

@@ -2,17 +2,17 @@
 #![tactic(auto)]
 
 ghost use Rattle.std.specs.Prelude.{◌≡◌, true, cond, [], ◌∷◌, ◌+◌, ◌*◌, ◌≤◌, ltb, length};
+ghost use Rattle.answer.specs.Answer.{number_of};
 ghost use Rattle.memory.specs.Memories.{contents};
 ghost use Rattle.layout.specs.Words.{state_words};
 ghost use Rattle.group.specs.GroupRefuse.{warps_limit};
-ghost use Rattle.group_words.specs.Row.{row};
 ghost use Rattle.group_words.specs.StateWords.{joined};
 ghost use Rattle.group_state.specs.GroupState.{is_group, group_called, group_run_call_of};
-ghost use Rattle.group_state.specs.Got.{Halls, Got, put_at};
+ghost use Rattle.group_state.specs.Got.{Got, put_at};
 
 use group_drive::GroupDrove;
 use group_words::WARPS;
-use layout::{FIXED, FLAT, MOVING, SCALARS, STATE_WORDS};
+use layout::{STATE_WORDS, WarpWords};
 
 // A state of 1 to 32 warps.
 pub fn is_group(state: &[u32]) -> bool
@@ -30,56 +30,25 @@ pub fn is_group(state: &[u32]) -> bool
 }
 
 // Each warp's words, copied out of the state.
-fn get_all(
-    state: &[u32],
-    hs: &mut [[u32; MOVING]; WARPS],
-    gs: &mut [[u32; FIXED]; WARPS],
-    xs: &mut [[u32; SCALARS]; WARPS],
-    ss: &mut [[u32; FLAT]; WARPS],
-    n: usize,
-)
-    requires { (n ≤ warps_limit) × (length state.now ≡ 1 + n * state_words) × Halls (row gs.old hs.old xs.old ss.old) }
-    ensures { Got n state.now (row gs.new hs.new xs.new ss.new) }
+fn get_all(state: &[u32], ws: &mut [WarpWords])
+    requires { (length ws.old ≤ warps_limit) × (length state.now ≡ 1 + length ws.old * state_words) }
+    ensures { Got (length ws.new) state.now ws.new }
 {
-    let mut i = 0;
-    while i < n {
+    for (i, w) in ws.iter_mut().enumerate() {
         let a = 1 + i * STATE_WORDS;
-        layout::get(
-            &state[a..a + STATE_WORDS],
-            &mut hs[i],
-            &mut gs[i],
-            &mut xs[i],
-            &mut ss[i],
-        );
-        i += 1;
+        w.get(&state[a..a + STATE_WORDS]);
     }
 }
 
 // And put back into it, with the turn before them.
-fn put_all(
-    hs: &[[u32; MOVING]; WARPS],
-    gs: &[[u32; FIXED]; WARPS],
-    xs: &[[u32; SCALARS]; WARPS],
-    ss: &[[u32; FLAT]; WARPS],
-    state: &mut [u32],
-    n: usize,
-    turn: u32,
-)
-    requires { (n ≤ warps_limit) × (length state.old ≡ 1 + n * state_words) }
-    ensures { state.new ≡ turn ∷ joined n (put_at (row gs.now hs.now xs.now ss.now)) }
+fn put_all(ws: &[WarpWords], state: &mut [u32], turn: u32)
+    requires { (length ws.now ≤ warps_limit) × (length state.old ≡ 1 + length ws.now * state_words) }
+    ensures { state.new ≡ turn ∷ joined (length ws.now) (put_at ws.now) }
 {
     state[0] = turn;
-    let mut i = 0;
-    while i < n {
+    for (i, w) in ws.iter().enumerate() {
         let a = 1 + i * STATE_WORDS;
-        layout::put(
-            &hs[i],
-            &gs[i],
-            &xs[i],
-            &ss[i],
-            &mut state[a..a + STATE_WORDS],
-        );
-        i += 1;
+        w.put(&mut state[a..a + STATE_WORDS]);
     }
 }
 
@@ -88,10 +57,7 @@ fn turn_word(turn: usize, n: usize, old: u32) -> u32
     requires { n ≤ warps_limit }
     ensures { result ≡ cond (ltb turn n) turn old }
 {
-    if turn < n {
-        return turn as u32;
-    }
-    old
+    if turn < n { turn as u32 } else { old }
 }
 
 // A run of the state's group: saving is copying, and words of no warp come back as they were.
@@ -104,20 +70,17 @@ pub fn run_state(
     budget: u32,
 ) -> GroupDrove
     requires { is_group state.old ≡ true }
-    ensures { group_called result.code state.new vector.new (contents bytes.new local.new) (result.steps ∷ result.stopped ∷ []) ≡ group_run_call_of state.old kernel.now budget vector.old (contents bytes.old local.old) (0 ∷ 0 ∷ []) }
+    ensures { group_called (number_of result.answer) state.new vector.new (contents bytes.new local.new) (result.steps ∷ result.stopped ∷ []) ≡ group_run_call_of state.old kernel.now budget vector.old (contents bytes.old local.old) (0 ∷ 0 ∷ []) }
 {
     let n = (state.len() - 1) / STATE_WORDS;
     let old = state[0];
     let turn = layout::wide(old);
-    let mut hs = [[0u32; MOVING]; WARPS];
-    let mut gs = [[0u32; FIXED]; WARPS];
-    let mut xs = [[0u32; SCALARS]; WARPS];
-    let mut ss = [[0u32; FLAT]; WARPS];
-    get_all(state, &mut hs, &mut gs, &mut xs, &mut ss, n);
-    let end = group_drive::run_group(
-        &mut hs, &gs, &mut xs, &mut ss, kernel, vector, bytes, local, n, turn, budget,
-    );
+    let zeros = WarpWords::zeros();
+    let mut all = [zeros; WARPS];
+    let ws = &mut all[..n];
+    get_all(state, ws);
+    let end = group_drive::run_group(ws, kernel, vector, bytes, local, turn, budget);
     let at = turn_word(end.turn, n, old);
-    put_all(&hs, &gs, &xs, &ss, state, n, at);
+    put_all(ws, state, at);
     end
 }

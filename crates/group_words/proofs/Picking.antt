@@ -1,6 +1,6 @@
 -- Going round the warps from one on: the first that runs, or none.
 use Prim.Native.Nat.{ℕ, ◌+◌, ◌%◌, ◌≤◌, ◌<◌}
-use mathlib.Core.Path.{◌≡◌, refl, sym, ap, ◌∙◌, subst}
+use mathlib.Core.Path.{◌≡◌, sym, ap, ◌∙◌, subst}
 use mathlib.Core.Bool.{true, false}
 use mathlib.Core.List.{List}
 use mathlib.Core.Logic.{⊎_elim}
@@ -9,7 +9,7 @@ use native.Mathlib.Omega.{arith}
 use lib.ListN.{length, get_or}
 use Rattle.warp.specs.declared.Warp.{Warp}
 use Rattle.warp.specs.Warp.{zero_warp}
-use Rattle.group.specs.Group.{next_of, runs, first_from}
+use Rattle.group.specs.Group.{next_of, runs, some_runs, first_from}
 use Rattle.group.proofs.GroupLaws.{after, after_none, within, first_is, all_stopped}
 use Rattle.group_words.specs.Row.{Picks}
 
@@ -32,11 +32,11 @@ module _ (ws : List Warp) (n : ℕ) (e : length ws ≡ n) (turn : ℕ) (b : turn
   seek_start = record { here = b; is = sym (after_none n turn b); skipped = λ d h. absurd (omega arith) }
 
   module _ (t i : ℕ) (s : Seeking ws n turn t i) where
-    pub seek_found : t < n → runs (get_or ws i zero_warp) ≡ true → Picks n turn ws i
-    seek_found l r = record { found = λ h. (s.is ∙ sym (rw e at first), r); none = λ h. absurd (omega (arith, s.here)) }
+    pub seek_found : t < n → runs (get_or ws i zero_warp) ≡ true → Picks turn ws i
+    seek_found l r = record { first = s.is ∙ ap (λ (m : ℕ). after m turn t) (sym e) ∙ sym first; running = r }
       where
-        first : first_from n turn ws ≡ after (length ws) turn t
-        first = first_is n turn t ws (rw e b) l (record { running = rw (e, ← s.is) r; skipped = λ d h. rw e (s.skipped d h) })
+        first : first_from (length ws) turn ws ≡ after (length ws) turn t
+        first = first_is (length ws) turn t ws (rw e b) (rw e l) (record { running = rw (e, ← s.is) r; skipped = λ d h. rw e (s.skipped d h) })
 
     pub seek_on : runs (get_or ws i zero_warp) ≡ false → (k : ℕ) → k ≡ next_of n i → k < n → Seeking ws n turn (t + 1) k
     seek_on r k q h =
@@ -52,9 +52,5 @@ module _ (ws : List Warp) (n : ℕ) (e : length ws ≡ n) (turn : ℕ) (b : turn
         less : (d : ℕ) → d < t + 1 → d ≤ t
         less d l = omega arith
 
-    pub seek_none : n ≤ t → Picks n turn ws n
-    seek_none l =
-        record {
-          found = λ h. absurd (omega arith);
-          none = λ h. (refl, all_stopped ws (λ j c. let p = within n turn j b (rw e at c) in rw (← p.there) (s.skipped p.far (omega (arith, p.short)))));
-        }
+    pub seek_none : n ≤ t → some_runs ws ≡ false
+    seek_none l = all_stopped ws (λ j c. let p = within n turn j b (rw e at c) in rw (← p.there) (s.skipped p.far (omega (arith, p.short))))

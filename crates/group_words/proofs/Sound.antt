@@ -1,68 +1,78 @@
 -- The tests of the words are those of the definition.
-use Prim.Native.Nat.{ℕ, ◌<◌}
-use mathlib.Core.Path.{◌≡◌, sym, ◌∙◌}
+use Prim.Native.Nat.{ℕ, zero, suc, ◌<◌}
+use mathlib.Core.Path.{◌≡◌, refl, sym, ap, ◌∙◌}
 use mathlib.Core.Bool.{Bool, true, ◌&&◌}
-use mathlib.Core.List.{List}
+use mathlib.Core.List.{List, [], ◌∷◌}
+use native.Mathlib.Omega.{arith}
+use lib.ListN.{length, get_or}
+use Rattle.std.specs.List.{list_all}
 use Rattle.answer.proofs.Rows.{both}
 use Rattle.memory.specs.Memories.{Contents}
-use Rattle.warp.specs.declared.Warp.{Warp}
-use Rattle.warp.specs.Warp.{zero_warp}
+use Rattle.warp.specs.declared.Fixed.{Fixed}
 use Rattle.warp.specs.WellFormed.{well_formed_of}
-use Rattle.layout.specs.Words.{warp_of, sound_of}
-use Rattle.group.specs.Group.{Group, count_of, fixeds_of}
-use Rattle.lanes.specs.Lanes.{all_below}
-use Rattle.lanes.proofs.Laws.{below_at, below_all}
+use Rattle.layout.specs.declared.WarpWords.{WarpWords}
+use Rattle.layout.specs.Words.{fixed_in, warp_of}
+use Rattle.layout.specs.Parts.{no_words, warp_from, sound_from}
+use Rattle.group.specs.Group.{Group, fixeds_of}
 use Rattle.group.specs.GroupRefuse.{placed_of, goes_on_of, formed_of}
 use Rattle.group.proofs.GroupLaws.{by_test, refute}
 use Rattle.group.proofs.GroupFacts.{GroupFormed, group_formed, formed_group}
-use Rattle.group_words.specs.Row.{Row, words_at, warp_in, group_in, fixeds_in, warp_ok_at, all_sound}
-use Rattle.group_words.proofs.Tabulate.{tab_length, tab_at, tab_map}
+use Rattle.group_words.specs.Row.{words_at, group_in, fixeds_in, warp_ok, all_sound}
+use Rattle.group_words.proofs.Words.{warps_long, warp_is}
 
-module _ (n : ℕ) (a : Row) where
-  abbrev sound_at : ℕ → Bool
-  sound_at i = sound_of (words_at a.moving i) (words_at a.splits i)
+-- ---- a test of each of a list
 
-  pub sound_at_lem : all_sound n a ≡ true → (i : ℕ) → i < n → sound_at i ≡ true
-  unfolding all_sound
-  sound_at_lem e = below_at n sound_at e
+module _ {A : Type 0} (p : A → Bool) (d : A) where
+  pub each_at : (l : List A) → list_all p l ≡ true → (i : ℕ) → i < length l → p (get_or l i d) ≡ true
+  each_at [] e i h = absurd (omega arith)
+  each_at (a ∷ l) e zero h = (both (p a) (list_all p l) e).0
+  each_at (a ∷ l) e (suc i) h = each_at l (both (p a) (list_all p l) e).1 i (omega arith)
 
-  pub at_sound : ((i : ℕ) → i < n → sound_at i ≡ true) → all_sound n a ≡ true
-  unfolding all_sound
-  at_sound h = below_all n sound_at h
+  pub at_each : (l : List A) → ((i : ℕ) → i < length l → p (get_or l i d) ≡ true) → list_all p l ≡ true
+  at_each [] h = refl
+  at_each (a ∷ l) h = rw (h 0 (omega arith), at_each l (λ i b. h (suc i) (omega arith)))
 
-  pub fixeds_are : (t : ℕ) (v : List ℕ) (c : Contents) → fixeds_of (group_in n t a v c) ≡ fixeds_in n a.fixed
-  unfolding warp_of
-  fixeds_are t v c = tab_map n (warp_in a) (λ (w : Warp). w.fixed) zero_warp
+pub sound_at : (ws : List WarpWords) → all_sound ws ≡ true → (i : ℕ) → i < length ws → sound_from (words_at ws i) ≡ true
+unfolding all_sound
+sound_at ws e = each_at sound_from no_words ws e
 
-  -- ---- the three tests of the words are those of the definition
-  module _ (t : ℕ) (v : List ℕ) (c : Contents) where
-    abbrev M : Group
-    M = group_in n t a v c
+pub at_sound : (ws : List WarpWords) → ((i : ℕ) → i < length ws → sound_from (words_at ws i) ≡ true) → all_sound ws ≡ true
+unfolding all_sound
+at_sound ws h = at_each sound_from no_words ws h
 
-    pub count : count_of M ≡ n
-    count = tab_length n (warp_in a)
+pub fixeds_are : (ws : List WarpWords) (t : ℕ) (v : List ℕ) (c : Contents) → fixeds_of (group_in t ws v c) ≡ fixeds_in ws
+unfolding warp_of
+fixeds_are [] t v c = refl
+fixeds_are (w ∷ ws) t v c = ap (λ (l : List Fixed). fixed_in w.fixed ∷ l) (fixeds_are ws t v c)
 
-    pub tests_are : (p q r : Bool) → p ≡ all_below n (λ i. warp_ok_at i a) → q ≡ placed_of (fixeds_in n a.fixed) → r ≡ goes_on_of M → (p && (q && r)) ≡ (all_sound n a && formed_of M)
-    tests_are p q r ep eq er =
-        by_test (all_sound n a && formed_of M)
-        (λ e. let z = both (all_sound n a) (formed_of M) e in let f = group_formed M z.1 in rw (e, ep, eq, er, all f z.0, ← fixeds_are t v c, f.placed, f.goes))
-        (λ e. by_test (p && (q && r)) (λ y. refute (whole y) e) (λ y. y ∙ sym e))
-      where
-        all : GroupFormed M → all_sound n a ≡ true → all_below n (λ i. warp_ok_at i a) ≡ true
-        all f s =
-            below_all n (λ i. warp_ok_at i a)
-            (λ i h. let w : well_formed_of (warp_in a i) ≡ true = rw (tab_at n (warp_in a) zero_warp i h) at (f.each i (rw count h)) in rw (sound_at_lem s i h, w))
+-- ---- the three tests of the words are those of the definition
+module _ (ws : List WarpWords) (t : ℕ) (v : List ℕ) (c : Contents) where
+  abbrev M : Group
+  M = group_in t ws v c
 
-        whole : (p && (q && r)) ≡ true → (all_sound n a && formed_of M) ≡ true
-        whole y =
-            let x = both p (q && r) y in
-            let z = both q r x.1 in
-            let o : (i : ℕ) → i < n → warp_ok_at i a ≡ true = below_at n (λ i. warp_ok_at i a) (sym ep ∙ x.0) in
-            let s : all_sound n a ≡ true = at_sound (λ i h. (both (sound_at i) (well_formed_of (warp_in a i)) (o i h)).0) in
-            let f : formed_of M ≡ true = formed_group M
-            (record {
-              each = λ i h. let b : i < n = rw count at h in rw (tab_at n (warp_in a) zero_warp i b) (both (sound_at i) (well_formed_of (warp_in a i)) (o i b)).1;
-              placed = rw (fixeds_are t v c) (sym eq ∙ z.0);
-              goes = sym er ∙ z.1;
-            }) in
-            rw (s, f)
+  pub tests_are : (p q r : Bool) → p ≡ list_all warp_ok ws → q ≡ placed_of (fixeds_in ws) → r ≡ goes_on_of M → (p && (q && r)) ≡ (all_sound ws && formed_of M)
+  tests_are p q r ep eq er =
+      by_test (all_sound ws && formed_of M)
+      (λ e. let z = both (all_sound ws) (formed_of M) e in let f = group_formed M z.1 in rw (e, ep, eq, er, all f z.0, ← fixeds_are ws t v c, f.placed, f.goes))
+      (λ e. by_test (p && (q && r)) (λ y. refute (whole y) e) (λ y. y ∙ sym e))
+    where
+      all : GroupFormed M → all_sound ws ≡ true → list_all warp_ok ws ≡ true
+      all f s =
+          at_each warp_ok no_words ws
+          (λ i h. let w : well_formed_of (warp_from (words_at ws i)) ≡ true = rw (warp_is ws i h) at (f.each i (rw (warps_long ws) h)) in rw (sound_at ws s i h, w))
+
+      whole : (p && (q && r)) ≡ true → (all_sound ws && formed_of M) ≡ true
+      whole y =
+          let x = both p (q && r) y in
+          let z = both q r x.1 in
+          let o : (i : ℕ) → i < length ws → warp_ok (words_at ws i) ≡ true = each_at warp_ok no_words ws (sym ep ∙ x.0) in
+          let s : all_sound ws ≡ true = at_sound ws (λ i h. (both (sound_from (words_at ws i)) (well_formed_of (warp_from (words_at ws i))) (o i h)).0) in
+          let f : formed_of M ≡ true = formed_group M
+          (record {
+            each = λ i h.
+                let b : i < length ws = rw (warps_long ws) at h in
+                rw (warp_is ws i b) (both (sound_from (words_at ws i)) (well_formed_of (warp_from (words_at ws i))) (o i b)).1;
+            placed = rw (fixeds_are ws t v c) (sym eq ∙ z.0);
+            goes = sym er ∙ z.1;
+          }) in
+          rw (s, f)

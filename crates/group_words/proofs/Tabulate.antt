@@ -6,9 +6,8 @@ use mathlib.Core.Logic.{⊎_elim}
 use native.Mathlib.Nat.{eq-or-lt_of_le, le_of_suc-le-suc}
 use native.Mathlib.Numerals.{add-one}
 use native.Mathlib.Omega.{arith}
-use lib.ListN.{length, get_or, set, length-append, length-set, length-map, get_or-append, get_or-map}
-use lib.Seq.{get_or_at, get_or-set_same, get_or-set_other, ext_get_or}
-use Rattle.group.proofs.GroupLaws.{by_equal}
+use lib.ListN.{length, get_or, length-append, length-map, get_or-append, get_or-map}
+use lib.Seq.{get_or_at, ext_get_or}
 use Rattle.group_words.specs.Row.{tabulate}
 
 module _ {A : Type 0} where
@@ -29,17 +28,6 @@ module _ {A : Type 0} where
   pub tab_is : (n : ℕ) (f : ℕ → A) (d : A) (l : List A) → length l ≡ n → ((i : ℕ) → i < n → get_or l i d ≡ f i) → l ≡ tabulate n f
   tab_is n f d l e h =
       ext_get_or d l (tabulate n f) (e ∙ sym (tab_length n f)) (λ i b. let c : i < n = subst (λ (k : ℕ). i < k) e b in h i c ∙ sym (tab_at n f d i c))
-
-  pub tab_same : (n : ℕ) (f g : ℕ → A) (d : A) → ((i : ℕ) → i < n → f i ≡ g i) → tabulate n f ≡ tabulate n g
-  tab_same n f g d h = tab_is n g d (tabulate n f) (tab_length n f) (λ i b. tab_at n f d i b ∙ h i b)
-
-  -- g is f but at i, where it is a
-  pub tab_set : (n : ℕ) (f g : ℕ → A) (d : A) (i : ℕ) (a : A) → i < n → g i ≡ a → ((j : ℕ) → j < n → (j ≡ i → ⊥) → g j ≡ f j) → set (tabulate n f) i a ≡ tabulate n g
-  tab_set n f g d i a h e o =
-      tab_is n g d (set (tabulate n f) i a) (length-set (tabulate n f) i a ∙ tab_length n f)
-      (λ j b.
-      by_equal j i (λ q. subst (λ (k : ℕ). get_or (set (tabulate n f) i a) k d ≡ g k) (sym q) (get_or-set_same (tabulate n f) i a d (subst (λ (k : ℕ). i < k) (sym (tab_length n f)) h) ∙ sym e))
-      (λ q. get_or-set_other (tabulate n f) i j a d q ∙ tab_at n f d j b ∙ sym (o j b q)))
 
 pub tab_map : {A B : Type 0} (n : ℕ) (f : ℕ → A) (g : A → B) (d : A) → map g (tabulate n f) ≡ tabulate n (λ i. g (f i))
 tab_map {B = B} n f g d =

@@ -2,17 +2,15 @@
 #![tactic(auto)]
 
 ghost use Rattle.std.specs.Prelude.{◌≡◌, ◌&&◌, List, map, ℕ, ◌<◌, ◌≤◌, length};
-ghost use Rattle.layout.specs.Words.{moving_count, flat_count, fixed_in};
+ghost use Rattle.std.specs.List.{list_all};
+ghost use Rattle.layout.specs.Words.{moving_count, flat_count, is_set, ended_in, fixed_in};
 ghost use Rattle.memory.specs.Memories.{Contents, contents};
 ghost use Rattle.running.specs.Goes.{Goes};
-ghost use Rattle.group.specs.Group.{next_of, all_ended, freed, settled};
-ghost use Rattle.lanes.specs.Lanes.{all_below};
+ghost use Rattle.group.specs.Group.{next_of, freed, settled};
 ghost use Rattle.group.specs.GroupRefuse.{warps_limit, sizes_ok_of, in_place_of, placed_of, goes_on_of, formed_of};
-ghost use Rattle.group_words.specs.Row.{row, runs_in, warps_in, Picks, Moving, Splits, Moves, group_in, fixeds_in, warp_ok_at, all_sound, Rooms};
+ghost use Rattle.group_words.specs.Row.{runs_in, Picked, Moves, group_in, fixeds_in, warp_ok, all_sound, Rooms};
 
-use layout::{
-    CODEBASE, DATABASE, ENDED, FIXED, FLAT, LDS, MOVING, NUMT, NUMW, SCALARS, WAITING, WID,
-};
+use layout::{CODEBASE, DATABASE, ENDED, FIXED, LDS, MOVING, NUMT, NUMW, WAITING, WID, WarpWords};
 
 // The most warps of a group.
 pub const WARPS: usize = 32;
@@ -27,32 +25,33 @@ fn can_run(h: &[u32; MOVING]) -> bool
     (h[ENDED] == 0) & (h[WAITING] == 0)
 }
 
+fn has_ended(h: &[u32; MOVING]) -> bool
+    ensures { result ≡ is_set (ended_in h.now) }
+{
+    h[ENDED] != 0
+}
+
 // The number after i, of n.
 pub fn next(i: usize, n: usize) -> usize
     requires { (i < n) × (n ≤ warps_limit) }
     ensures { (result ≡ next_of n i) × (result < n) }
 {
-    if i + 1 < n {
-        return i + 1;
-    }
-    0
+    if i + 1 < n { i + 1 } else { 0 }
 }
 
-// The first of n warps that runs, from `turn` on, cyclically; n where none does.
-pub fn pick(hs: &[[u32; MOVING]; WARPS], n: usize, turn: usize) -> usize
-    requires { (turn < n) × (n ≤ warps_limit) }
-    ensures { (gs xs ss : List (List ℕ)) → Picks n turn (warps_in n (row gs hs.now xs ss)) result }
+// The first warp that runs, from `turn` on, cyclically.
+pub fn pick(ws: &[WarpWords], turn: usize) -> Option<usize>
+    requires { (turn < length ws.now) × (length ws.now ≤ warps_limit) }
+    ensures { Picked turn ws.now result }
 {
     let mut i = turn;
-    let mut tried = 0;
-    while tried < n {
-        if can_run(&hs[i]) {
-            return i;
+    for _tried in 0..ws.len() {
+        if can_run(&ws[i].moving) {
+            return Some(i);
         }
-        i = next(i, n);
-        tried += 1;
+        i = next(i, ws.len());
     }
-    n
+    None
 }
 
 // A warp that waits is released.
@@ -60,87 +59,67 @@ fn free(h: &mut [u32; MOVING])
     requires { length h.old ≡ moving_count }
     ensures { (g x s : List ℕ) → length s ≡ flat_count → Goes freed g h.old x s h.new x s }
 {
-    if h[WAITING] == 0 {
-        return;
+    if h[WAITING] != 0 {
+        h[ENDED] = 0;
+        h[WAITING] = 0;
     }
-    h[ENDED] = 0;
-    h[WAITING] = 0;
 }
 
-// Every one of n warps that waits is released.
-fn release(hs: &mut [[u32; MOVING]; WARPS], n: usize)
-    requires { (n ≤ warps_limit) × Moving n hs.old }
-    ensures { Moves (map freed) n hs.old hs.new }
+// Every warp that waits is released.
+fn release(ws: &mut [WarpWords])
+    requires { Rooms ws.old }
+    ensures { Moves (map freed) ws.old ws.new }
 {
-    let mut i = 0;
-    while i < n {
-        free(&mut hs[i]);
-        i += 1;
+    for w in ws.iter_mut() {
+        free(&mut w.moving);
     }
 }
 
 // After a step of warp i: where no warp runs any more, all that wait are released.
-pub fn settle(hs: &mut [[u32; MOVING]; WARPS], n: usize, i: usize)
-    requires { (i < n) × (n ≤ warps_limit) × Moving n hs.old }
-    ensures { Moves settled n hs.old hs.new }
+pub fn settle(ws: &mut [WarpWords], i: usize)
+    requires { (i < length ws.old) × Rooms ws.old }
+    ensures { Moves settled ws.old ws.new }
 {
-    if can_run(&hs[i]) {
+    if can_run(&ws[i].moving) {
         return;
     }
-    if pick(hs, n, i) < n {
+    if pick(ws, i).is_some() {
         return;
     }
-    release(hs, n);
+    release(ws);
 }
 
 // ---- the tests of a run
 
-// What each of n warps' own bases asks of the lent runs.
+// What each warp's own bases ask of the lent runs.
 pub fn sizes_ok(
-    gs: &[[u32; FIXED]; WARPS],
+    ws: &[WarpWords],
     kernel: &[u32],
     vector: &[u32],
     bytes: &[u8],
     local: &[u8],
-    n: usize,
 ) -> bool
-    requires { (1 ≤ n) × (n ≤ warps_limit) }
-    ensures { result ≡ sizes_ok_of kernel.now (fixeds_in n gs.now) vector.now (contents bytes.now local.now) }
+    requires { (1 ≤ length ws.now) × (length ws.now ≤ warps_limit) }
+    ensures { result ≡ sizes_ok_of kernel.now (fixeds_in ws.now) vector.now (contents bytes.now local.now) }
 {
-    if vector.len() != n * FILE_WORDS {
+    if vector.len() != ws.len() * FILE_WORDS {
         return false;
     }
-    let mut i = 0;
-    while i < n {
+    for (i, w) in ws.iter().enumerate() {
         let a = i * FILE_WORDS;
-        let f = layout::fixed_in(&gs[i]);
+        let f = layout::fixed_in(&w.fixed);
         if !sizes::runs_ok(f, kernel, &vector[a..a + FILE_WORDS], bytes, local) {
             return false;
         }
-        i += 1;
     }
     true
 }
 
-// Every one of n warps' words are a warp's, and it is well formed.
-fn words_ok(
-    hs: &[[u32; MOVING]; WARPS],
-    gs: &[[u32; FIXED]; WARPS],
-    xs: &[[u32; SCALARS]; WARPS],
-    ss: &[[u32; FLAT]; WARPS],
-    n: usize,
-) -> bool
-    requires { (n ≤ warps_limit) × Moving n hs.now × Splits n ss.now }
-    ensures { result ≡ all_below n (λ i. warp_ok_at i (row gs.now hs.now xs.now ss.now)) }
+// Every one's words are a warp's, and it is well formed.
+fn words_ok(ws: &[WarpWords]) -> bool
+    ensures { result ≡ list_all warp_ok ws.now }
 {
-    let mut i = 0;
-    while i < n {
-        if !formed::words_ok(&hs[i], &gs[i], &xs[i], &ss[i]) {
-            return false;
-        }
-        i += 1;
-    }
-    true
+    ws.iter().all(|w| formed::words_ok(w))
 }
 
 // Warp i of n, by its fixed words g: WID and NUMW by its place, the rest as the words z of warp 0 have it.
@@ -151,62 +130,42 @@ fn in_place(z: &[u32; FIXED], g: &[u32; FIXED], i: usize, n: usize) -> bool
     (layout::wide(g[WID]) == i) & ((layout::wide(g[NUMW]) == n) & ((g[NUMT] == z[NUMT]) & base))
 }
 
-pub fn placed(gs: &[[u32; FIXED]; WARPS], n: usize) -> bool
-    requires { n ≤ warps_limit }
-    ensures { result ≡ placed_of (fixeds_in n gs.now) }
+pub fn placed(ws: &[WarpWords]) -> bool
+    requires { length ws.now ≤ warps_limit }
+    ensures { result ≡ placed_of (fixeds_in ws.now) }
 {
-    let mut i = 0;
-    while i < n {
-        if !in_place(&gs[0], &gs[i], i, n) {
+    for (i, w) in ws.iter().enumerate() {
+        if !in_place(&ws[0].fixed, &w.fixed, i, ws.len()) {
             return false;
         }
-        i += 1;
     }
     true
 }
 
-fn all_ended(hs: &[[u32; MOVING]; WARPS], n: usize) -> bool
-    requires { n ≤ warps_limit }
-    ensures { (gs xs ss : List (List ℕ)) → result ≡ all_ended (warps_in n (row gs hs.now xs ss)) }
+fn all_ended(ws: &[WarpWords]) -> bool
+    ensures { result ≡ list_all (λ w. is_set (ended_in w.moving)) ws.now }
 {
-    let mut i = 0;
-    while i < n {
-        if hs[i][ENDED] == 0 {
-            return false;
-        }
-        i += 1;
-    }
-    true
+    ws.iter().all(|w| has_ended(&w.moving))
 }
 
 // All have ended, or the turn names a warp and some warp runs.
-fn goes_on(hs: &[[u32; MOVING]; WARPS], n: usize, turn: usize) -> bool
-    requires { n ≤ warps_limit }
-    ensures { (gs xs ss : List (List ℕ)) (v : List ℕ) (c : Contents) → result ≡ goes_on_of (group_in n turn (row gs hs.now xs ss) v c) }
+fn goes_on(ws: &[WarpWords], turn: usize) -> bool
+    requires { length ws.now ≤ warps_limit }
+    ensures { (v : List ℕ) (c : Contents) → result ≡ goes_on_of (group_in turn ws.now v c) }
 {
-    if all_ended(hs, n) {
+    if all_ended(ws) {
         return true;
     }
-    if n <= turn {
+    if ws.len() <= turn {
         return false;
     }
-    pick(hs, n, turn) < n
+    pick(ws, turn).is_some()
 }
 
-// The words of n warps are those of a well-formed group.
-pub fn group_ok(
-    hs: &[[u32; MOVING]; WARPS],
-    gs: &[[u32; FIXED]; WARPS],
-    xs: &[[u32; SCALARS]; WARPS],
-    ss: &[[u32; FLAT]; WARPS],
-    n: usize,
-    turn: usize,
-) -> bool
-    requires { Rooms n (row gs.now hs.now xs.now ss.now) }
-    ensures { (v : List ℕ) (c : Contents) → result ≡ (all_sound n (row gs.now hs.now xs.now ss.now) && formed_of (group_in n turn (row gs.now hs.now xs.now ss.now) v c)) }
+// The words are those of a well-formed group.
+pub fn group_ok(ws: &[WarpWords], turn: usize) -> bool
+    requires { length ws.now ≤ warps_limit }
+    ensures { (v : List ℕ) (c : Contents) → result ≡ (all_sound ws.now && formed_of (group_in turn ws.now v c)) }
 {
-    let words = words_ok(hs, gs, xs, ss, n);
-    let place = placed(gs, n);
-    let going = goes_on(hs, n, turn);
-    words & (place & going)
+    words_ok(ws) & (placed(ws) & goes_on(ws, turn))
 }

@@ -18,7 +18,7 @@ use Rattle.isa.specs.declared.LoadOp.{LoadOp}
 use Rattle.isa.specs.declared.VReg.{VReg}
 use Rattle.lanes.specs.declared.Lane.{Lane}
 use Rattle.lanes.specs.Lanes.{write_lanes}
-use Rattle.memory.specs.declared.Loaded.TheVariants.{Found, Outside}
+use Rattle.std.specs.Prelude.{Some, None}
 use Rattle.memory.specs.Memory.{size_of}
 use Rattle.memory.specs.Memories.{Contents, Memories, inside_one, load_from}
 use Rattle.memory.proofs.Laws.{found_inside, outside_is}
@@ -131,10 +131,10 @@ first_not a b e = rw e
 
 -- what a scalar load finds at p, the definition's a
 module _ (k : LoadOp) (m : Memories) (p a : ℕ) (e : p ≡ a) where
-  pub load_inside : (y : ℕ) → Found y ≡ cond (inside_one m (size_of k) p) (Found (load_from k m p)) Outside → (inside_one m (size_of k) a ≡ true) × (load_from k m a ≡ y)
+  pub load_inside : (y : ℕ) → Some y ≡ cond (inside_one m (size_of k) p) (Some (load_from k m p)) None → (inside_one m (size_of k) a ≡ true) × (load_from k m a ≡ y)
   load_inside y q = rw (← e) (let z = found_inside (inside_one m (size_of k) p) y (load_from k m p) q in (z.0, sym z.1))
 
-  pub load_outside : Outside ≡ cond (inside_one m (size_of k) p) (Found (load_from k m p)) Outside → inside_one m (size_of k) a ≡ false
+  pub load_outside : None ≡ cond (inside_one m (size_of k) p) (Some (load_from k m p)) None → inside_one m (size_of k) a ≡ false
   load_outside q = rw (← e) (outside_is (inside_one m (size_of k) p) (load_from k m p) q)
 
 -- ---- 7: which CSR

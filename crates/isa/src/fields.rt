@@ -81,7 +81,7 @@ pub fn long_immediate(w: u64) -> u16
     (w / 72057594037927936 % 64 * 32 + w / 32768 % 32) as u16
 }
 
-// ---- registers
+// ---- registers; a function each, and none generic in place and type: each is one line with the definition's own division
 
 pub fn xd(w: u64) -> XReg
     ensures { (result ≡ xd_in w) × (result.0 < scalar_registers) }

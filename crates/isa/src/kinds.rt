@@ -1,4 +1,5 @@
-// A word's kind: its row in the instruction tables, and NONE where it has none. Numbers and not an enum, so that the compiler goes straight from the decoder's answer to the handler (docs/SPEED.md).
+// A word's kind: its row in the instruction tables, and NONE where it has none. Numbers and not an enum, so that the compiler goes straight from
+// the decoder's answer to the handler (docs/SPEED.md).
 
 pub const NONE: u32 = 0;
 

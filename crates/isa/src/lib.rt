@@ -11,7 +11,7 @@ use word::{Cond, Op};
 #[derive(Clone, Copy)]
 pub struct XReg(pub u8);
 
-#[derive(Clone, Copy)]
+#[derive(Clone, Copy, PartialEq, Eq)]
 pub struct VReg(pub u8);
 
 #[derive(Clone, Copy)]
@@ -55,9 +55,9 @@ pub struct VecArgs {
     pub masked: bool,
 }
 
-// A pending prefix: its kind, 0 where none is pending, 1 REGEXT, 2 REGEXTI, and its 12 bits.
+// A pending prefix: its kind, 0 where none is pending, 1 REGEXT, 2 REGEXTI, and its 12 bits. Numbers and no Option of an enum: C and a saved state have them so.
 #[repr(C)]
-#[derive(Clone, Copy)]
+#[derive(Clone, Copy, Default)]
 pub struct Prefix {
     pub kind: u32,
     pub bits: u32,

@@ -1,17 +1,16 @@
 // Where each lane's access goes, plain or private, and that a private one stays in its word.
 #![tactic(auto)]
 
-ghost use Rattle.std.specs.Prelude.{◌≡◌, true, not, ◌^◌, ◌<◌, ◌≤◌, length};
+ghost use Rattle.std.specs.Prelude.{◌≡◌, not, ◌^◌, ◌<◌, ◌≤◌, length};
 ghost use Rattle.isa.specs.declared.Space.TheVariants as spaces;
 ghost use Rattle.lanes.specs.Mask.{bit};
-ghost use Rattle.isa.specs.Bounds.{vector_registers};
-ghost use Rattle.lanes.specs.Lanes.{lanes_max, file_words, lane_of, mask_of};
-ghost use Rattle.lanes.specs.Rows.{at, RowOf};
-ghost use Rattle.memory.specs.Address.{own_place, private_of, address_of, lane_address, in_word_at, in_word, offset_limit};
+ghost use Rattle.lanes.specs.Lanes.{lanes_max, file_words, lane_of};
+ghost use Rattle.lanes.specs.Rows.{RowOf};
+ghost use Rattle.memory.specs.Address.{own_place, private_of, address_of, lane_address, in_word_at, offset_limit};
 ghost use Rattle.memory.specs.LaneAccess.{all_in_word};
 
 use isa::{Space, VReg};
-use lanes::{LANES, Lane};
+use lanes::{LANES, Lane, all_active, slot};
 use memory::{Private, plain_address};
 
 // Where in its lane's own memory a private access goes.
@@ -55,43 +54,27 @@ fn address(space: Space, p: Private, x: u32, off: u16, l: Lane) -> u32
 
 // The addresses of the lanes below n, over register r.
 fn address_row(space: Space, p: Private, v: &[u32], r: VReg, off: u16, n: usize) -> [u32; LANES]
-    requires { (length v.now ≡ file_words) × (r.0 < vector_registers) × (off < offset_limit space) × (n ≤ lanes_max) }
+    requires { (length v.now ≡ file_words) × (off < offset_limit space) × (n ≤ lanes_max) }
     ensures { RowOf n (lane_address space p v.now r off) result }
 {
+    // To n and not by from_fn: over all lanes, the n that the clause names would be looked at nowhere.
     let mut o = [0u32; LANES];
-    let mut l = 0;
-    while l < n {
-        let i = lanes::slot(r, Lane(l));
-        o[l] = address(space, p, v[i], off, Lane(l));
-        l += 1;
+    for l in 0..n {
+        o[l] = address(space, p, v[slot(r, Lane(l))], off, Lane(l));
     }
     o
 }
 
 // Each arm calls the loop with its space as a constant, so that the compiler makes a vector loop of each.
+// Closures would be no plainer: they are the two arms of `address` again.
 pub fn addresses(space: Space, p: Private, v: &[u32], r: VReg, off: u16, n: usize) -> [u32; LANES]
-    requires { (length v.now ≡ file_words) × (r.0 < vector_registers) × (off < offset_limit space) × (n ≤ lanes_max) }
+    requires { (length v.now ≡ file_words) × (off < offset_limit space) × (n ≤ lanes_max) }
     ensures { RowOf n (lane_address space p v.now r off) result }
 {
     match space {
         Space::Plain => address_row(Space::Plain, p, v, r, off, n),
         Space::Private => address_row(Space::Private, p, v, r, off, n),
     }
-}
-
-// The lanes below n, active or not, whose private access of w bytes crosses a word boundary.
-fn crossing(v: &[u32], r: VReg, off: u16, w: usize, n: usize) -> u32
-    requires { (length v.now ≡ file_words) × (r.0 < vector_registers) × (off < offset_limit spaces.Private) × (w ≤ 4) × (n ≤ lanes_max) }
-    ensures { result ≡ mask_of n (λ l. not (in_word spaces.Private w (lane_of v.now r l) off)) }
-{
-    let mut out = 0;
-    let mut l = 0;
-    while l < n {
-        let i = lanes::slot(r, Lane(l));
-        out = lanes::with(out, Lane(l), crosses(own_place(v[i], off), w));
-        l += 1;
-    }
-    out
 }
 
 // The boundary test, over every active lane. A plain access has no boundary.
@@ -104,11 +87,14 @@ pub fn all_in_word(
     mask: u32,
     n: usize,
 ) -> bool
-    requires { (mask < 2 ^ n) × (length v.now ≡ file_words) × (r.0 < vector_registers) × (off < offset_limit space) × (w ≤ 4) × (n ≤ lanes_max) }
+    requires { (mask < 2 ^ n) × (length v.now ≡ file_words) × (off < offset_limit space) × (w ≤ 4) × (n ≤ lanes_max) }
     ensures { result ≡ all_in_word n (bit mask) space w (lane_of v.now r) off }
 {
     match space {
         Space::Plain => true,
-        Space::Private => crossing(v, r, off, w, n) & mask == 0,
+        Space::Private => {
+            let stays = |l: usize| !crosses(own_place(v[slot(r, Lane(l))], off), w);
+            all_active(mask, n, stays)
+        }
     }
 }

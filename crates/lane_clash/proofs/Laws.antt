@@ -16,17 +16,12 @@ use Rattle.lanes.specs.declared.Lane.{Lane}
 use Rattle.lanes.specs.Mask.{lane, bit}
 use Rattle.lanes.specs.Lanes.{lanes_max, ok_if}
 use Rattle.lanes.specs.Rows.{at}
-use Rattle.lanes.proofs.Laws.{all_at, all_hold, ok_at, ok_when}
+use Rattle.lanes.proofs.Laws.{when_both, all_at, all_hold, ok_at, ok_when}
 use Rattle.memory.specs.Bytes.{le_bytes}
 use Rattle.memory.specs.Memory.{width_of, has_of, Has, byte_at}
 use Rattle.memory.specs.LaneAccess.{all_agree}
 use Rattle.memory.proofs.Agree.{has_true, true_has, SameBytes, Agreed, all_agreed, agreed_all}
 use Rattle.lane_clash.specs.Clash.{reach, Follows, Spread, NoneMeet, low_same, from_of, lane_from, pairs_from}
-
-pub when_both : (s t : Bool) → (s ≡ true → t ≡ true) → (t ≡ true → s ≡ true) → s ≡ t
-when_both true t f g = sym (f refl)
-when_both false true f g = g refl
-when_both false false f g = refl
 
 -- ---- lanes that go up or down
 

@@ -1,16 +1,16 @@
 // Whether the stores of active lanes agree: no two of them store different values to one byte.
 #![tactic(auto)]
 
-ghost use Rattle.std.specs.Prelude.{◌≡◌, true, not, ◌+◌, ◌^◌, ◌<◌, ◌≤◌};
+ghost use Rattle.std.specs.Prelude.{◌≡◌, true, ◌+◌, ◌^◌, ◌<◌, ◌≤◌};
 ghost use Rattle.lanes.specs.Mask.{bit, lane};
-ghost use Rattle.lanes.specs.Lanes.{lanes_max, mask_of};
+ghost use Rattle.lanes.specs.Lanes.{lanes_max, ok_if};
 ghost use Rattle.lanes.specs.Rows.{at};
 ghost use Rattle.memory.specs.Memory.{width_of};
 ghost use Rattle.memory.specs.LaneAccess.{all_agree};
-ghost use Rattle.lane_clash.specs.Clash.{away_of, Follows, Spread, NoneMeet, low_same, from_of, lane_with, lane_from, pairs_from, NonePast};
+ghost use Rattle.lane_clash.specs.Clash.{away_of, Follows, Spread, NoneMeet, low_same, from_of, lane_from, pairs_from, NonePast};
 
 use isa::StoreOp;
-use lanes::{LANES, Lane};
+use lanes::{LANES, Lane, active, all_active};
 
 // ---- the usual case: each lane's access lies behind the one before, or each before it
 
@@ -43,11 +43,9 @@ fn spread(up: bool, w: u32, n: usize, o: &[u32; LANES]) -> bool
     } else {
         word::add(o[0], w)
     };
-    let mut l = 0;
-    while l < n {
-        near = near & follows(up, w, last, o[l]);
+    for l in 0..n {
+        near &= follows(up, w, last, o[l]);
         last = o[l];
-        l += 1;
     }
     near
 }
@@ -84,32 +82,15 @@ fn agree(w: u32, a: u32, x: u32, b: u32, y: u32) -> bool
     ensures { result ≡ from_of w a x b y }
 {
     let d = word::sub(b, a);
-    if d >= w {
-        return true;
-    }
-    low_same(w - d, x >> (8 * d), y)
+    d >= w || low_same(w - d, x >> (8 * d), y)
 }
 
-// The lanes below n, active or not, whose store begins in lane l's and has other bytes there.
-fn differing(w: u32, l: usize, n: usize, o: &[u32; LANES], x: &[u32; LANES]) -> u32
-    requires { (w ≤ 4) × (l < n) × (n ≤ lanes_max) × (at o.now (lane l) + w ≤ 2 ^ 32) }
-    ensures { result ≡ mask_of n (λ h. not (lane_with w o.now x.now (lane l) h)) }
-{
-    let mut out = 0;
-    let mut h = 0;
-    while h < n {
-        out = lanes::with(out, Lane(h), !agree(w, o[l], x[l], o[h], x[h]));
-        h += 1;
-    }
-    out
-}
-
-// Lane l's store agrees with that of each lane of the mask that begins in it.
+// Lane l isn't in the mask, or its store agrees with that of each lane of the mask that begins in it.
 fn lane_agrees(w: u32, mask: u32, l: usize, n: usize, o: &[u32; LANES], x: &[u32; LANES]) -> bool
-    requires { (w ≤ 4) × (l < n) × (n ≤ lanes_max) × (mask < 2 ^ n) × (at o.now (lane l) + w ≤ 2 ^ 32) }
-    ensures { result ≡ lane_from w mask n o.now x.now (lane l) }
+    requires { (w ≤ 4) × (l < n) × (n ≤ lanes_max) × (mask < 2 ^ n) × NonePast w mask n o.now }
+    ensures { result ≡ ok_if (bit mask (lane l)) (lane_from w mask n o.now x.now (lane l)) }
 {
-    differing(w, l, n, o, x) & mask == 0
+    !active(mask, Lane(l)) || all_active(mask, n, |h| agree(w, o[l], x[l], o[h], x[h]))
 }
 
 // Each pair of lanes, from both sides.
@@ -117,16 +98,7 @@ fn pairs_agree(w: u32, mask: u32, n: usize, o: &[u32; LANES], x: &[u32; LANES]) 
     requires { (w ≤ 4) × (n ≤ lanes_max) × (mask < 2 ^ n) × NonePast w mask n o.now }
     ensures { result ≡ pairs_from w mask n o.now x.now }
 {
-    let mut l = 0;
-    while l < n {
-        if lanes::active(mask, Lane(l)) {
-            if !lane_agrees(w, mask, l, n, o, x) {
-                return false;
-            }
-        }
-        l += 1;
-    }
-    true
+    (0..n).all(|l| lane_agrees(w, mask, l, n, o, x))
 }
 
 // The stores of the lanes of the mask, the words x at the addresses o, agree.
@@ -135,8 +107,5 @@ pub fn all_agree(k: StoreOp, mask: u32, n: usize, o: &[u32; LANES], x: &[u32; LA
     ensures { result ≡ all_agree n (bit mask) k (at o.now) (at x.now) }
 {
     let w = memory::width(k) as u32;
-    if apart(w, n, o) {
-        return true;
-    }
-    pairs_agree(w, mask, n, o, x)
+    apart(w, n, o) || pairs_agree(w, mask, n, o, x)
 }

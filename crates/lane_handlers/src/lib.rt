@@ -3,7 +3,7 @@
 
 ghost use Rattle.std.specs.Prelude.{◌≡◌, not, cond, List, [], ◌∷◌, ℕ, ◌+◌, ◌%◌, ◌<◌, ◌≤◌, eqb, length};
 ghost use Rattle.std.specs.Int.Count.{ones};
-ghost use Rattle.answer.specs.Rows.{◌⇒◌, first};
+ghost use Rattle.answer.specs.Answer.{number_of};
 ghost use Rattle.word.specs.Word.{extend_of};
 ghost use Rattle.isa.specs.Fields.{fields_of, is_masked, imm_b};
 ghost use Rattle.isa.specs.Masked.{over_mask};
@@ -25,6 +25,7 @@ ghost use Rattle.definition.specs.Step.{exec_of};
 ghost use Rattle.handlers.specs.Handles.{lists, Handles};
 ghost use Rattle.lane_handlers.specs.Lanes.{LanesAt, Lanes, address_at, in_words, LaneLoad, LaneStore};
 
+use answer::Refusal;
 use handlers::{first, gives, offset, threads};
 use isa::masked::{is_compare, is_v0};
 use isa::{Instr, Space, fields, kinds};
@@ -99,13 +100,13 @@ pub fn vector(
     v: &mut [u32],
     kind: u32,
     w: u64,
-) -> u32
+) -> Result<(), Refusal>
     requires { Lanes g.now h.old v.old }
-    ensures { (s : List ℕ) (d : Contents) → length s ≡ flat_count → Handles (exec_of (on_fields (numbers_in w) (lane_op_word (op_at (kind % op_limit)) (fields_of w)))) result (lists g.now h.old x.now s v.old d) (lists g.now h.new x.now s v.new d) }
+    ensures { (s : List ℕ) (d : Contents) → length s ≡ flat_count → Handles (exec_of (on_fields (numbers_in w) (lane_op_word (op_at (kind % op_limit)) (fields_of w)))) (number_of result) (lists g.now h.old x.now s v.old d) (lists g.now h.new x.now s v.new d) }
 {
     let op = fields::op_at(kind % kinds::OPS);
     if over_mask(op, w) {
-        return answer::UNKNOWN;
+        return Err(Refusal::Unknown);
     }
     let mask = written(h[MASK], g, v, w);
     let b = operand(x, w);
@@ -117,24 +118,17 @@ pub fn vector(
         Operand::Word(y) => lane_ops::op_lanes(v, mask, n, op, d, a, Operand::Word(y)),
     }
     running::next(h);
-    answer::DONE
+    Ok(())
 }
 
 // vmv.v, from any source.
-pub fn vmove(
-    h: &mut [u32; MOVING],
-    g: &[u32; FIXED],
-    x: &[u32; SCALARS],
-    v: &mut [u32],
-    w: u64,
-) -> u32
+pub fn vmove(h: &mut [u32; MOVING], g: &[u32; FIXED], x: &[u32; SCALARS], v: &mut [u32], w: u64)
     requires { Lanes g.now h.old v.old }
-    ensures { (s : List ℕ) (d : Contents) → length s ≡ flat_count → Handles (exec_of (Instr.VMove (vd_in w) (on_source (numbers_in w) (source_in (fields_of w))))) result (lists g.now h.old x.now s v.old d) (lists g.now h.new x.now s v.new d) }
+    ensures { (s : List ℕ) (d : Contents) → length s ≡ flat_count → Handles (exec_of (Instr.VMove (vd_in w) (on_source (numbers_in w) (source_in (fields_of w))))) 0 (lists g.now h.old x.now s v.old d) (lists g.now h.new x.now s v.new d) }
 {
     let b = operand(x, w);
     lanes::move_lanes(v, h[MASK], threads(g), fields::vd(w), b);
     running::next(h);
-    answer::DONE
 }
 
 // vmerge, which is masked and yet writes every active lane.
@@ -144,49 +138,42 @@ pub fn vmerge(
     x: &[u32; SCALARS],
     v: &mut [u32],
     w: u64,
-) -> u32
+) -> Result<(), Refusal>
     requires { Lanes g.now h.old v.old }
-    ensures { (s : List ℕ) (d : Contents) → length s ≡ flat_count → Handles (exec_of (Instr.VMerge (vd_in w) (vs2_in w) (on_source (numbers_in w) (source_in (fields_of w))))) result (lists g.now h.old x.now s v.old d) (lists g.now h.new x.now s v.new d) }
+    ensures { (s : List ℕ) (d : Contents) → length s ≡ flat_count → Handles (exec_of (Instr.VMerge (vd_in w) (vs2_in w) (on_source (numbers_in w) (source_in (fields_of w))))) (number_of result) (lists g.now h.old x.now s v.old d) (lists g.now h.new x.now s v.new d) }
 {
     let d = fields::vd(w);
     if is_v0(d) {
-        return answer::UNKNOWN;
+        return Err(Refusal::Unknown);
     }
     let b = operand(x, w);
     lane_masks::merge_lanes(v, h[MASK], threads(g), d, fields::vs2(w), b);
     running::next(h);
-    answer::DONE
+    Ok(())
 }
 
 // vmv.s.x, which acts as vmv.v.x.
-pub fn vmove_sx(
-    h: &mut [u32; MOVING],
-    g: &[u32; FIXED],
-    x: &[u32; SCALARS],
-    v: &mut [u32],
-    w: u64,
-) -> u32
+pub fn vmove_sx(h: &mut [u32; MOVING], g: &[u32; FIXED], x: &[u32; SCALARS], v: &mut [u32], w: u64)
     requires { Lanes g.now h.old v.old }
-    ensures { (s : List ℕ) (d : Contents) → length s ≡ flat_count → Handles (exec_of (Instr.VMoveSX (vd_in w) (xs1_in w))) result (lists g.now h.old x.now s v.old d) (lists g.now h.new x.now s v.new d) }
+    ensures { (s : List ℕ) (d : Contents) → length s ≡ flat_count → Handles (exec_of (Instr.VMoveSX (vd_in w) (xs1_in w))) 0 (lists g.now h.old x.now s v.old d) (lists g.now h.new x.now s v.new d) }
 {
     let y = first(x, w);
     lanes::move_lanes(v, h[MASK], threads(g), fields::vd(w), Operand::Word(y));
     running::next(h);
-    answer::DONE
 }
 
-pub fn vid(h: &mut [u32; MOVING], g: &[u32; FIXED], v: &mut [u32], w: u64) -> u32
+pub fn vid(h: &mut [u32; MOVING], g: &[u32; FIXED], v: &mut [u32], w: u64) -> Result<(), Refusal>
     requires { Lanes g.now h.old v.old }
-    ensures { (x s : List ℕ) (d : Contents) → length s ≡ flat_count → Handles (exec_of (Instr.Vid (is_masked (fields_of w)) (vd_in w))) result (lists g.now h.old x s v.old d) (lists g.now h.new x s v.new d) }
+    ensures { (x s : List ℕ) (d : Contents) → length s ≡ flat_count → Handles (exec_of (Instr.Vid (is_masked (fields_of w)) (vd_in w))) (number_of result) (lists g.now h.old x s v.old d) (lists g.now h.new x s v.new d) }
 {
     let d = fields::vd(w);
     if fields::masked(w) & is_v0(d) {
-        return answer::UNKNOWN;
+        return Err(Refusal::Unknown);
     }
     let on = written(h[MASK], g, v, w);
     lanes::id_lanes(v, on, threads(g), d);
     running::next(h);
-    answer::DONE
+    Ok(())
 }
 
 // vmv.x.s.
@@ -196,15 +183,15 @@ pub fn vmove_xs(
     x: &mut [u32; SCALARS],
     v: &[u32],
     w: u64,
-) -> u32
+) -> Result<(), Refusal>
     requires { Lanes g.now h.old v.now }
-    ensures { (s : List ℕ) (d : Contents) → length s ≡ flat_count → Handles (exec_of (Instr.VMoveXS (xd_in w) (vs2_in w))) result (lists g.now h.old x.old s v.now d) (lists g.now h.new x.new s v.now d) }
+    ensures { (s : List ℕ) (d : Contents) → length s ≡ flat_count → Handles (exec_of (Instr.VMoveXS (xd_in w) (vs2_in w))) (number_of result) (lists g.now h.old x.old s v.now d) (lists g.now h.new x.new s v.now d) }
 {
     let held = lanes::uniform(v, h[MASK], threads(g), fields::vs2(w));
     if held.uniform {
-        return gives(held.value, h, x, w);
+        return Ok(gives(held.value, h, x, w));
     }
-    answer::DIFFERING
+    Err(Refusal::Differing)
 }
 
 pub fn vbranch(
@@ -213,9 +200,9 @@ pub fn vbranch(
     s: &mut [u32; FLAT],
     v: &[u32],
     w: u64,
-) -> u32
+) -> Result<(), Refusal>
     requires { Lanes g.now h.old v.now × (length s.old ≡ flat_count) × (depth_in h.old + ones (mask_in h.old) ≤ lanes_max) }
-    ensures { (x : List ℕ) (d : Contents) → Handles (exec_of (Instr.VBranch (cond_of (fields_of w)) (vs1_in w) (vs2_in w) (imm_b (fields_of w)))) result (lists g.now h.old x s.old v.now d) (lists g.now h.new x s.new v.now d) }
+    ensures { (x : List ℕ) (d : Contents) → Handles (exec_of (Instr.VBranch (cond_of (fields_of w)) (vs1_in w) (vs2_in w) (imm_b (fields_of w)))) (number_of result) (lists g.now h.old x s.old v.now d) (lists g.now h.new x s.new v.now d) }
 {
     let e = lanes::else_mask(
         v,
@@ -227,10 +214,10 @@ pub fn vbranch(
     );
     let p = offset(h, 13, fields::imm_b(w) as u32);
     if (e != 0) & (p % 4 != 0) {
-        return answer::BAD_TARGET;
+        return Err(Refusal::BadTarget);
     }
     splits::part(h, s, e, p);
-    answer::DONE
+    Ok(())
 }
 
 // ---- lane accesses, plain or private
@@ -259,16 +246,6 @@ fn lane_addresses(space: Space, off: u16, g: &[u32; FIXED], v: &[u32], w: u64) -
     lane_address::addresses(space, private(g), v, fields::vs1(w), off, threads(g))
 }
 
-// 0 where every active lane's access lies inside, else 9.
-fn inside_number(inside: bool) -> u32
-    ensures { result ≡ first (9 ⇒ not inside ∷ []) }
-{
-    if inside {
-        return answer::DONE;
-    }
-    answer::OUTSIDE
-}
-
 // The compiler leaves vload and vstore as calls; lent the moving words h, they would keep them in memory for the whole loop (docs/SPEED.md).
 pub fn vload(
     space: Space,
@@ -279,19 +256,22 @@ pub fn vload(
     d: &[u8],
     l: &[u8],
     w: u64,
-) -> u32
+) -> Result<(), Refusal>
     requires { LanesAt mask g.now v.old × MemoriesOk (memories_in (fixed_in g.now) (contents d.now l.now)) × (off < offset_limit space) }
-    ensures { LaneLoad result space off mask w g.now v.old (contents d.now l.now) v.new }
+    ensures { LaneLoad (number_of result) space off mask w g.now v.old (contents d.now l.now) v.new }
 {
     let k = fields::load_op(w);
     if some_crosses(space, off, mask, g, v, w, memory::size(k)) {
-        return answer::CROSSING;
+        return Err(Refusal::Crossing);
     }
     let o = lane_addresses(space, off, g, v, w);
     let n = threads(g);
     let base = g[DATABASE];
     let near = g[LDS];
-    inside_number(lane_memory::load_lanes(v, mask, n, k, d, base, l, near, &o, fields::vd(w)))
+    if !lane_memory::load_lanes(v, mask, n, k, d, base, l, near, &o, fields::vd(w)) {
+        return Err(Refusal::Outside);
+    }
+    Ok(())
 }
 
 pub fn vstore(
@@ -303,27 +283,17 @@ pub fn vstore(
     d: &mut [u8],
     l: &mut [u8],
     w: u64,
-) -> u32
+) -> Result<(), Refusal>
     requires { LanesAt mask g.now v.now × MemoriesOk (memories_in (fixed_in g.now) (contents d.old l.old)) × (off < offset_limit space) }
-    ensures { LaneStore result space off mask w g.now v.now (contents d.old l.old) (contents d.new l.new) }
+    ensures { LaneStore (number_of result) space off mask w g.now v.now (contents d.old l.old) (contents d.new l.new) }
 {
     let k = fields::lane_store_op(w);
     if some_crosses(space, off, mask, g, v, w, memory::width(k)) {
-        return answer::CROSSING;
+        return Err(Refusal::Crossing);
     }
     let o = lane_addresses(space, off, g, v, w);
     let n = threads(g);
     let base = g[DATABASE];
     let near = g[LDS];
     lane_memory::store_lanes(v, mask, n, k, d, base, l, near, &o, fields::vs2(w))
-}
-
-// The PC goes to PC + 4 where the access was made.
-pub fn on_if(code: u32, h: &mut [u32; MOVING]) -> u32
-    ensures { (result ≡ code) × (h.new ≡ cond (eqb code 0) (next_in h.old) h.old) }
-{
-    if code == answer::DONE {
-        running::next(h);
-    }
-    code
 }

@@ -1,41 +1,41 @@
 // Loads and stores of lanes: the test of all their accesses, and then the accesses.
 #![tactic(auto)]
 
-ghost use Rattle.std.specs.Prelude.{◌≡◌, true, not, cond, List, ℕ, ◌^◌, ◌<◌, ◌≤◌, length};
-ghost use Rattle.lanes.specs.Mask.{bit};
-ghost use Rattle.isa.specs.Bounds.{vector_registers};
-ghost use Rattle.lanes.specs.Lanes.{lanes_max, file_words, lane_of, write_lanes, mask_of};
-ghost use Rattle.lanes.specs.Rows.{at, RowOn};
+ghost use Rattle.std.specs.Prelude.{◌≡◌, true, cond, List, ℕ, ◌^◌, ◌<◌, ◌≤◌, length};
+ghost use Rattle.answer.specs.Answer.{number_of};
+ghost use Rattle.lanes.specs.declared.Lane.{Lane};
+ghost use Rattle.lanes.specs.Mask.{lane, bit};
+ghost use Rattle.lanes.specs.Lanes.{lanes_max, file_words, lane_of, write_lanes};
+ghost use Rattle.lanes.specs.Rows.{at, RowOn, Gives};
 ghost use Rattle.memory.specs.Memory.{memory, MemoryOk, size_of, width_of, inside_of, load_of};
 ghost use Rattle.memory.specs.Memories.{contents, memories, MemoriesOk, inside_one, load_from};
 ghost use Rattle.memory.specs.LaneAccess.{all_inside, store_lanes};
 ghost use Rattle.lane_memory.specs.Stores.{Stored};
 
 use access::{inside, load_at, load_one, put_at, put_one};
+use answer::Refusal;
 use isa::{LoadOp, StoreOp, VReg};
-use lanes::{LANES, Lane};
+use lanes::{LANES, Lane, active, all_active};
 use memory::{size, width};
-
-// The lanes below n, active or not, whose access is not inside: a mask made without a branch.
-fn outside(d: &[u8], base: u32, w: usize, n: usize, o: &[u32; LANES]) -> u32
-    requires { MemoryOk (memory base d.now) × (1 ≤ w) × (w ≤ 4) × (n ≤ lanes_max) }
-    ensures { result ≡ mask_of n (λ l. not (inside_of (memory base d.now) w (at o.now l))) }
-{
-    let mut out = 0;
-    let mut l = 0;
-    while l < n {
-        out = lanes::with(out, Lane(l), !inside(d, base, w, o[l]));
-        l += 1;
-    }
-    out
-}
 
 // The test pass, over every active lane, of the data memory alone.
 fn all_inside(d: &[u8], base: u32, w: usize, mask: u32, n: usize, o: &[u32; LANES]) -> bool
     requires { (mask < 2 ^ n) × MemoryOk (memory base d.now) × (1 ≤ w) × (w ≤ 4) × (n ≤ lanes_max) }
     ensures { result ≡ all_inside n (bit mask) (inside_of (memory base d.now) w) (at o.now) }
 {
-    outside(d, base, w, n, o) & mask == 0
+    all_active(mask, n, |l| inside(d, base, w, o[l]))
+}
+
+// What f gives into the row, in each lane of the mask below n: f is called in no other lane.
+fn gather<F: Fn(usize) -> u32>(mask: u32, n: usize, x: &mut [u32; LANES], f: F)
+    requires { (n ≤ lanes_max) × ((l : ℕ) → l < n → bit mask (lane l) ≡ true → F.pre f l) }
+    ensures { (g : Lane → ℕ) → Gives (F.post f) n g → RowOn (bit mask) n g x.new }
+{
+    for l in 0..n {
+        if active(mask, Lane(l)) {
+            x[l] = f(l);
+        }
+    }
 }
 
 // What each active lane of a load finds, after the test pass.
@@ -48,19 +48,13 @@ fn fetch(
     o: &[u32; LANES],
     x: &mut [u32; LANES],
 )
-    requires { (length x.old ≡ lanes_max) × (n ≤ lanes_max) × (true ≡ all_inside n (bit mask) (inside_of (memory base d.now) (size_of k)) (at o.now)) }
+    requires { (n ≤ lanes_max) × (true ≡ all_inside n (bit mask) (inside_of (memory base d.now) (size_of k)) (at o.now)) }
     ensures { RowOn (bit mask) n (λ l. load_of k (memory base d.now) (at o.now l)) x.new }
 {
-    let mut l = 0;
-    while l < n {
-        if lanes::active(mask, Lane(l)) {
-            x[l] = load_at(d, base, k, o[l]);
-        }
-        l += 1;
-    }
+    gather(mask, n, x, |l| load_at(d, base, k, o[l]));
 }
 
-// Each arm calls the loop with its operation as a constant.
+// Each arm calls the loop with its operation as a constant. Closures would be no plainer: one an arm, they are the match of load_at again.
 fn fetch_op(
     d: &[u8],
     base: u32,
@@ -70,7 +64,7 @@ fn fetch_op(
     o: &[u32; LANES],
     x: &mut [u32; LANES],
 )
-    requires { (length x.old ≡ lanes_max) × (n ≤ lanes_max) × (true ≡ all_inside n (bit mask) (inside_of (memory base d.now) (size_of k)) (at o.now)) }
+    requires { (n ≤ lanes_max) × (true ≡ all_inside n (bit mask) (inside_of (memory base d.now) (size_of k)) (at o.now)) }
     ensures { RowOn (bit mask) n (λ l. load_of k (memory base d.now) (at o.now l)) x.new }
 {
     match k {
@@ -82,7 +76,7 @@ fn fetch_op(
     }
 }
 
-// The write pass, in lane order.
+// The write pass, in lane order. It and store_both are loops: the clause of one that is generic in FnMut would be a fold of its states, longer than both.
 fn store(
     d: &mut [u8],
     base: u32,
@@ -95,16 +89,14 @@ fn store(
     requires { (n ≤ lanes_max) × (true ≡ all_inside n (bit mask) (inside_of (memory base d.old) (width_of k)) (at o.now)) }
     ensures { (near : ℕ) (l : List ℕ) → contents d.new l ≡ store_lanes n (bit mask) k (at o.now) (at x.now) (memories base near (contents d.old l)) }
 {
-    let mut l = 0;
-    while l < n {
-        if lanes::active(mask, Lane(l)) {
+    for l in 0..n {
+        if active(mask, Lane(l)) {
             put_at(d, base, k, o[l], x[l]);
         }
-        l += 1;
     }
 }
 
-// Each arm calls the loop with its width as a constant.
+// Each arm calls the loop with its width as a constant. Closures would be no plainer: one an arm, they are the match of put_at again.
 fn store_op(
     d: &mut [u8],
     base: u32,
@@ -126,30 +118,6 @@ fn store_op(
 
 // ---- lanes of which not all are in data memory: slower, since each looks where it goes
 
-// The lanes below n, active or not, whose access is in neither memory.
-fn outside_both(
-    d: &[u8],
-    base: u32,
-    local: &[u8],
-    near: u32,
-    w: usize,
-    n: usize,
-    o: &[u32; LANES],
-) -> u32
-    requires { MemoriesOk (memories base near (contents d.now local.now)) × (1 ≤ w) × (w ≤ 4) × (n ≤ lanes_max) }
-    ensures { result ≡ mask_of n (λ l. not (inside_one (memories base near (contents d.now local.now)) w (at o.now l))) }
-{
-    let mut out = 0;
-    let mut l = 0;
-    while l < n {
-        let in_data = inside(d, base, w, o[l]);
-        let in_local = inside(local, near, w, o[l]);
-        out = lanes::with(out, Lane(l), !(in_data | in_local));
-        l += 1;
-    }
-    out
-}
-
 // The test pass, over every active lane.
 fn all_inside_one(
     d: &[u8],
@@ -164,31 +132,11 @@ fn all_inside_one(
     requires { (mask < 2 ^ n) × MemoriesOk (memories base near (contents d.now local.now)) × (1 ≤ w) × (w ≤ 4) × (n ≤ lanes_max) }
     ensures { result ≡ all_inside n (bit mask) (inside_one (memories base near (contents d.now local.now)) w) (at o.now) }
 {
-    outside_both(d, base, local, near, w, n, o) & mask == 0
-}
-
-// What each active lane of a load finds, after the test pass.
-fn fetch_both(
-    d: &[u8],
-    base: u32,
-    local: &[u8],
-    near: u32,
-    k: LoadOp,
-    mask: u32,
-    n: usize,
-    o: &[u32; LANES],
-    x: &mut [u32; LANES],
-)
-    requires { (length x.old ≡ lanes_max) × (n ≤ lanes_max) × MemoriesOk (memories base near (contents d.now local.now)) × (true ≡ all_inside n (bit mask) (inside_one (memories base near (contents d.now local.now)) (size_of k)) (at o.now)) }
-    ensures { RowOn (bit mask) n (λ l. load_from k (memories base near (contents d.now local.now)) (at o.now l)) x.new }
-{
-    let mut l = 0;
-    while l < n {
-        if lanes::active(mask, Lane(l)) {
-            x[l] = load_one(d, base, local, near, k, o[l]);
-        }
-        l += 1;
-    }
+    all_active(
+        mask,
+        n,
+        |l| inside(d, base, w, o[l]) | inside(local, near, w, o[l]),
+    )
 }
 
 // The write pass, in lane order.
@@ -206,12 +154,10 @@ fn store_both(
     requires { (n ≤ lanes_max) × MemoriesOk (memories base near (contents d.old local.old)) × (true ≡ all_inside n (bit mask) (inside_one (memories base near (contents d.old local.old)) (width_of k)) (at o.now)) }
     ensures { contents d.new local.new ≡ store_lanes n (bit mask) k (at o.now) (at x.now) (memories base near (contents d.old local.old)) }
 {
-    let mut l = 0;
-    while l < n {
-        if lanes::active(mask, Lane(l)) {
+    for l in 0..n {
+        if active(mask, Lane(l)) {
             put_one(d, base, local, near, k, o[l], x[l]);
         }
-        l += 1;
     }
 }
 
@@ -227,7 +173,7 @@ fn found(
     o: &[u32; LANES],
     x: &mut [u32; LANES],
 ) -> bool
-    requires { (length x.old ≡ lanes_max) × (n ≤ lanes_max) × (mask < 2 ^ n) × MemoriesOk (memories base near (contents d.now local.now)) }
+    requires { (n ≤ lanes_max) × (mask < 2 ^ n) × MemoriesOk (memories base near (contents d.now local.now)) }
     ensures { (result ≡ all_inside n (bit mask) (inside_one (memories base near (contents d.now local.now)) (size_of k)) (at o.now)) × (result ≡ true → RowOn (bit mask) n (λ l. load_from k (memories base near (contents d.now local.now)) (at o.now l)) x.new) }
 {
     if all_inside(d, base, size(k), mask, n, o) {
@@ -235,7 +181,7 @@ fn found(
         return true;
     }
     if all_inside_one(d, base, local, near, size(k), mask, n, o) {
-        fetch_both(d, base, local, near, k, mask, n, o, x);
+        gather(mask, n, x, |l| load_one(d, base, local, near, k, o[l]));
         return true;
     }
     false
@@ -254,7 +200,7 @@ pub fn load_lanes(
     o: &[u32; LANES],
     vd: VReg,
 ) -> bool
-    requires { (length v.old ≡ file_words) × (vd.0 < vector_registers) × (n ≤ lanes_max) × (mask < 2 ^ n) × MemoriesOk (memories base near (contents d.now local.now)) }
+    requires { (length v.old ≡ file_words) × (n ≤ lanes_max) × (mask < 2 ^ n) × MemoriesOk (memories base near (contents d.now local.now)) }
     ensures { (result ≡ all_inside n (bit mask) (inside_one (memories base near (contents d.now local.now)) (size_of k)) (at o.now)) × (v.new ≡ cond result (write_lanes n (bit mask) vd (λ l. load_from k (memories base near (contents d.now local.now)) (at o.now l)) v.old) v.old) }
 {
     let mut x = [0u32; LANES];
@@ -276,25 +222,25 @@ fn stored(
     n: usize,
     o: &[u32; LANES],
     x: &[u32; LANES],
-) -> u32
+) -> Result<(), Refusal>
     requires { (n ≤ lanes_max) × (mask < 2 ^ n) × MemoriesOk (memories base near (contents d.old local.old)) }
-    ensures { Stored result n mask k (at o.now) (at x.now) (memories base near (contents d.old local.old)) (contents d.new local.new) }
+    ensures { Stored (number_of result) n mask k (at o.now) (at x.now) (memories base near (contents d.old local.old)) (contents d.new local.new) }
 {
     let here = all_inside(d, base, width(k), mask, n, o);
     if !here {
         if !all_inside_one(d, base, local, near, width(k), mask, n, o) {
-            return answer::OUTSIDE;
+            return Err(Refusal::Outside);
         }
     }
     if !lane_clash::all_agree(k, mask, n, o, x) {
-        return answer::CLASHING;
+        return Err(Refusal::Clashing);
     }
     if here {
         store_op(d, base, k, mask, n, o, x);
     } else {
         store_both(d, base, local, near, k, mask, n, o, x);
     }
-    answer::DONE
+    Ok(())
 }
 
 // A store of register src by the lanes of the mask to the addresses o: done, or refused with nothing changed.
@@ -309,11 +255,10 @@ pub fn store_lanes(
     near: u32,
     o: &[u32; LANES],
     src: VReg,
-) -> u32
-    requires { (length v.now ≡ file_words) × (src.0 < vector_registers) × (n ≤ lanes_max) × (mask < 2 ^ n) × MemoriesOk (memories base near (contents d.old local.old)) }
-    ensures { Stored result n mask k (at o.now) (lane_of v.now src) (memories base near (contents d.old local.old)) (contents d.new local.new) }
+) -> Result<(), Refusal>
+    requires { (length v.now ≡ file_words) × (n ≤ lanes_max) × (mask < 2 ^ n) × MemoriesOk (memories base near (contents d.old local.old)) }
+    ensures { Stored (number_of result) n mask k (at o.now) (lane_of v.now src) (memories base near (contents d.old local.old)) (contents d.new local.new) }
 {
-    let mut x = [0u32; LANES];
-    lanes::get(v, src, n, &mut x);
+    let x = lanes::row(v, src);
     stored(d, base, local, near, k, mask, n, o, &x)
 }

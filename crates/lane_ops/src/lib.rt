@@ -12,8 +12,9 @@ use lanes::{LANES, Operand, map, map_on, operand_row, row};
 use word::Op;
 
 // Each arm calls the loop with its operation as a constant, so that the compiler makes a vector loop of each.
+// Closures would be no plainer: one an arm, they are the match of word::apply again.
 fn map_op(op: Op, v: &mut [u32], mask: u32, d: VReg, n: usize, x: &[u32; LANES], y: &[u32; LANES])
-    requires { (length v.old ≡ file_words) × (d.0 < vector_registers) × (n ≤ lanes_max) }
+    requires { (length v.old ≡ file_words) × (n ≤ lanes_max) }
     ensures { v.new ≡ write_lanes n (bit mask) d (map_lane op x.now y.now) v.old }
 {
     match op {

@@ -4,13 +4,16 @@ use mathlib.Core.Bool.{Bool, true, false, not, ◌&&◌, true≢false, cond}
 use mathlib.Core.Logic.{◌⊎◌, inl, inr, ⊎_elim}
 use mathlib.Core.List.{List}
 use Prim.Native.Nat.{ℕ, zero, suc, ◌+◌, ◌*◌, ◌≤◌, ◌<◌}
-use native.Mathlib.Nat.{lt_of_lt_of_le, le-suc, le_refl, eq-or-lt_of_le, le_of_suc-le-suc}
+use native.Mathlib.Nat.{zero-add, lt_of_lt_of_le, le-suc, le_refl, eq-or-lt_of_le, le_of_suc-le-suc}
 use native.Mathlib.Omega.{arith}
 use native.Mathlib.Numerals.{add-one}
 use lib.Dec.{eqb, ltb}
 use borrow.Author.Tests.{eqb-true, eqb-false, eq-eqb, ltb-true, ltb-false}
 use lib.ListN.{length, get_or, set, length-set}
 use lib.Seq.{get_or-set_same, get_or-set_other}
+use Rattle.std.specs.Bool.{MatchBool}
+use Rattle.std.specs.List.{AllWithin, HoldsAt, range_with_len}
+use Rattle.std.proofs.lemmas.List.FromFn.{length-range_with_len, get_or-range_with_len}
 use Rattle.word.specs.Word.{apply_of}
 use Rattle.word.specs.declared.Op.{Op}
 use Rattle.isa.specs.declared.VReg.{VReg}
@@ -143,6 +146,11 @@ pub write_same : (on : Lane → Bool) (d : VReg) (f g : Lane → ℕ) (v : List 
 write_same on d f g v n e = each_same on on _ _ v n (λ l h. refl) (λ l u h t. ap (set u (slot_of d l)) (e l h t))
 
 -- ---- a test in every lane
+pub when_both : (s t : Bool) → (s ≡ true → t ≡ true) → (t ≡ true → s ≡ true) → s ≡ t
+when_both true t f g = sym (f refl)
+when_both false true f g = g refl
+when_both false false f g = refl
+
 pub both_left : (a c : Bool) → (a && c) ≡ true → a ≡ true
 both_left true c e = refl
 both_left false c e = e
@@ -183,6 +191,16 @@ below_none p = refl
 pub below_more : (p : ℕ → Bool) (i : ℕ) → all_below i p ≡ true → p i ≡ true → all_below (i + 1) p ≡ true
 unfolding all_below
 below_more p i a b = rw (add-one i, a, b)
+
+-- what `all` answers over the numbers below n
+pub all_numbers : (n : ℕ) (p : ℕ → Bool) (r : Bool)
+    → MatchBool r (AllWithin (λ i. p i ≡ true) (range_with_len 0 n) 0 (length (range_with_len 0 n))) ((k : ℕ) × (k < length (range_with_len 0 n)) × HoldsAt (λ i. p i ≡ false) (range_with_len 0 n) k)
+    → r ≡ all_below n p
+all_numbers n p true m =
+    sym (below_all n p (λ i h. subst (λ (j : ℕ). p j ≡ true) (get_or-range_with_len 0 n i 0 h ∙ zero-add i) (m i 0 (omega arith) (omega (arith, length-range_with_len 0 n)))))
+all_numbers n p false m =
+    let h : m.0 < n = omega (arith, m.1, length-range_with_len 0 n) in
+    sym (below_not n p m.0 h (subst (λ (j : ℕ). p j ≡ false) (get_or-range_with_len 0 n m.0 0 h ∙ zero-add m.0) (m.2 0)))
 
 -- the same of lanes
 pub all_at : (p : Lane → Bool) (n : ℕ) (l : Lane) → true ≡ all_lanes n p → l.0 < n → p l ≡ true

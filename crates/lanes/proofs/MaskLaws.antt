@@ -12,14 +12,14 @@ use lib.Pow.{pow_pos, pow_mono, shr-shr, mod-pow-add}
 use lib.Bits.{bit_and, and_step, and_le_r, and_block}
 use lib.Count.{ones, ones_in, ones_step}
 use lib.Dec.{eqb}
-use borrow.Author.Tests.{eqb-true, eqb-false, ne_eqb}
+use borrow.Author.Tests.{eqb-true, eqb-false, eq-eqb, ne_eqb}
 use Rattle.word.specs.Word.{holds_of}
 use Rattle.word.specs.declared.Cond.{Cond}
 use Rattle.isa.specs.declared.VReg.{VReg}
 use Rattle.lanes.specs.declared.Lane.{Lane}
 use Rattle.lanes.specs.Mask.{lane, bit_at, bit}
-use Rattle.lanes.specs.Lanes.{step_if, each_lane, mask_of, all_below, all_lanes, lane_of, wants_of}
-use Rattle.lanes.proofs.Laws.{newest, each_grows, each_same}
+use Rattle.lanes.specs.Lanes.{step_if, each_lane, mask_of, all_below, all_lanes, ok_if, lane_of, wants_of}
+use Rattle.lanes.proofs.Laws.{newest, each_grows, each_same, when_both, all_at, all_hold}
 
 -- ---- lane l's digit
 pub bit_zero : (m : ℕ) → bit_at 0 m ≡ m % 2
@@ -152,6 +152,29 @@ mask_zero q (suc n) = turn (q (lane n)) (mask_of n q) (all_lanes n (λ l. not (q
     turn : (t : Bool) (m : ℕ) (a : Bool) → eqb m 0 ≡ a → eqb (step_if t (λ (k : ℕ). k + 2 ^ n) m) 0 ≡ (a && not t)
     turn true m a e = ne_eqb (m + 2 ^ n) 0 (λ z. omega (arith, pow_pos n)) ∙ sym (and-false a)
     turn false m a e = e ∙ sym (and-true a)
+
+-- the lanes of a mask where a test holds are all of its lanes just where it holds in each
+pub mask_whole : (p : Lane → Bool) (n m : ℕ) → m < 2 ^ n → eqb (bit_and (mask_of n p) m) m ≡ all_lanes n (λ l. ok_if (bit m l) (p l))
+mask_whole p n m h = when_both (eqb (bit_and (mask_of n p) m) m) (all_lanes n (λ l. ok_if (bit m l) (p l))) there back
+  where
+    kept : (s t : Bool) → (s && t) ≡ s → ok_if s t ≡ true
+    kept true t e = e
+    kept false t e = refl
+
+    keeps : (s t : Bool) → ok_if s t ≡ true → (s && t) ≡ s
+    keeps true t e = e
+    keeps false t e = refl
+
+    there : eqb (bit_and (mask_of n p) m) m ≡ true → all_lanes n (λ l. ok_if (bit m l) (p l)) ≡ true
+    there e =
+        sym (all_hold (λ l. ok_if (bit m l) (p l)) n (λ l k. kept (bit m l) (p l)
+        (mask_picks (λ i. bit m i && p i) (bit m) n (sym (and_bits p n m h) ∙ eqb-true _ m e ∙ mask_self m n h) l k)))
+
+    back : all_lanes n (λ l. ok_if (bit m l) (p l)) ≡ true → eqb (bit_and (mask_of n p) m) m ≡ true
+    back e =
+        eq-eqb _ m (and_bits p n m h
+        ∙ mask_same (λ l. bit m l && p l) (bit m) n (λ l k. keeps (bit m l) (p l) (all_at (λ i. ok_if (bit m i) (p i)) n l (sym e) k))
+        ∙ sym (mask_self m n h))
 
 -- ---- the lanes of m where a test holds, e, and the rest, m - e
 module _ (m n : ℕ) (p : Lane → Bool) (h : m < 2 ^ n) where

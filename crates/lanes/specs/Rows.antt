@@ -4,6 +4,7 @@ use Rattle.word.specs.Word.{apply_of, holds_of}
 use Rattle.word.specs.declared.Op.{Op}
 use Rattle.word.specs.declared.Cond.{Cond}
 use Rattle.lanes.specs.declared.Lane.{Lane}
+use Rattle.lanes.specs.Mask.{lane}
 use Rattle.lanes.specs.declared.Operand.{Operand}
 use Rattle.lanes.specs.declared.Operand.TheVariants.{Reg, Word}
 use Rattle.isa.specs.Bounds.{vector_registers}
@@ -36,3 +37,10 @@ holds_lane c a b l = holds_of c (at a l) (at b l)
 -- a mask of lanes below l, with lane l where t holds
 abbrev pub mask_step : Bool → Lane → ℕ → ℕ
 mask_step t l m = step_if t (λ (k : ℕ). k + 2 ^ l.0) m
+
+-- what a closure returns for the number of a lane below n is what f gives there, or whether p holds of that lane
+abbrev pub Gives : (ℕ → ℕ → Type 0) → ℕ → (Lane → ℕ) → Type 0
+Gives post n f = (l x : ℕ) → l < n → post l x → x ≡ f (lane l)
+
+abbrev pub Picks : (ℕ → Bool → Type 0) → ℕ → (Lane → Bool) → Type 0
+Picks post n p = (l : ℕ) (t : Bool) → l < n → post l t → t ≡ p (lane l)

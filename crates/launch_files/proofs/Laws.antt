@@ -31,12 +31,12 @@ words_of_length k = words_length (length k / 4) k
 -- ---- the files
 
 module _ (c k d : List ℕ) (r : Reading) (e : r ≡ read_card_of c) where
-  pub card_refused : (r.number ≡ 0 → ⊥) → r ≡ read_files_of c k d
+  pub card_refused : (r.number ≡ 0 → ⊥) → reading r.number (read_card_of c).launch ≡ read_files_of c k d
   unfolding read_files_of
   card_refused h = rw (← e, ne_eqb r.number 0 h)
 
   module _ (h : r.number ≡ 0) where
-    pub sizes_refused : files_ok_of k d ≡ false → reading 1 r.launch ≡ read_files_of c k d
+    pub sizes_refused : files_ok_of k d ≡ false → reading 1 (read_card_of c).launch ≡ read_files_of c k d
     unfolding read_files_of
     sizes_refused f = rw (← e, h, f)
 

@@ -2,11 +2,13 @@
 #![tactic(auto)]
 
 ghost use Rattle.std.specs.Prelude.{◌≡◌, ◌/◌, ◌≤◌, length, take};
-ghost use Rattle.card.specs.Card.{reading_of};
+ghost use Rattle.std.specs.Result.{result_unwrap_or};
+ghost use Rattle.answer.specs.Answer.{number_of};
+ghost use Rattle.card.specs.Card.{reading, read_card_of};
 ghost use Rattle.launch_files.specs.LaunchFiles.{kernel_words_of, files_ok_of, read_files_of};
 
-use answer::{Answer, Refusal};
-use card::ReadCard;
+use answer::Refusal;
+use warp::Launch;
 
 // The programs' own limits: the bytes of a kernel file and of a data file.
 pub const KERNEL_BYTES: usize = 65536;
@@ -21,10 +23,8 @@ pub fn put_words(kernel: &[u8], words: &mut [u32])
     ensures { take (length kernel.now / 4) words.new ≡ kernel_words_of kernel.now }
 {
     let n = kernel.len() / 4;
-    let mut i = 0;
-    while i < n {
+    for i in 0..n {
         words[i] = access::word_at(kernel, 4 * i);
-        i += 1;
     }
 }
 
@@ -35,21 +35,13 @@ fn files_ok(kernel: &[u8], bytes: &[u8]) -> bool
     (kernel.len() % 4 == 0) & ((kernel.len() <= KERNEL_BYTES) & (bytes.len() <= DATA_BYTES))
 }
 
-// The card tested and read, then the sizes of the other files tested.
-pub fn read_files(card: &[u8], kernel: &[u8], bytes: &[u8]) -> ReadCard
-    ensures { reading_of result ≡ read_files_of card.now kernel.now bytes.now }
+// The card's launch; the card tested first, then the sizes of the other files.
+pub fn read_files(card: &[u8], kernel: &[u8], bytes: &[u8]) -> Result<Launch, Refusal>
+    ensures { reading (number_of result) (result_unwrap_or result (read_card_of card.now).launch) ≡ read_files_of card.now kernel.now bytes.now }
 {
-    let read = card::read_card(card);
-    let a = read.answer;
-    if answer::number(a) != answer::DONE {
-        return read;
-    }
+    let l = card::read_card(card)?;
     if !files_ok(kernel, bytes) {
-        let l = read.launch;
-        return ReadCard {
-            answer: Answer::Refused(Refusal::Size),
-            launch: l,
-        };
+        return Err(Refusal::Size);
     }
-    read
+    Ok(l)
 }

@@ -8,6 +8,7 @@ ghost use Rattle.warp.specs.Warp.{split_count};
 ghost use Rattle.word.specs.Word.{flag_of};
 ghost use Rattle.layout.specs.Words.{state_words, fixed_in, split_at, splits_in, warp_of, splits_words, moving_words, fixed_words, scalar_part, split_part, moving_part, fixed_part};
 ghost use Rattle.layout.specs.Lent.{put_split};
+ghost use Rattle.layout.specs.Parts.{zero_parts, parts_of, warp_from, parts_in, state_from};
 
 use isa::Prefix;
 use warp::{Fixed, SPLITS, Split, Warp, zero_split};
@@ -95,7 +96,7 @@ pub fn wide(x: u32) -> usize
 pub fn flag_word(b: bool) -> u32
     ensures { result ≡ flag_of b }
 {
-    if b { 1 } else { 0 }
+    u32::from(b)
 }
 
 // ---- splits
@@ -189,11 +190,8 @@ pub fn flat(q: [Split; SPLITS]) -> [u32; FLAT]
     ensures { result ≡ splits_words q }
 {
     let mut s = [0u32; FLAT];
-    let mut k: usize = 0;
-    while k < SPLITS {
-        let a = q[k];
-        put_split(&mut s, k, a);
-        k = k + 1;
+    for k in 0..SPLITS {
+        put_split(&mut s, k, q[k]);
     }
     s
 }
@@ -201,13 +199,9 @@ pub fn flat(q: [Split; SPLITS]) -> [u32; FLAT]
 pub fn unflat(s: &[u32; FLAT]) -> [Split; SPLITS]
     ensures { result ≡ splits_in s.now }
 {
-    let none = zero_split();
-    let mut q = [none; SPLITS];
-    let mut k: usize = 0;
-    while k < SPLITS {
-        let a = split_at(s, k);
-        q[k] = a;
-        k = k + 1;
+    let mut q = [zero_split(); SPLITS];
+    for k in 0..SPLITS {
+        q[k] = split_at(s, k);
     }
     q
 }
@@ -215,12 +209,10 @@ pub fn unflat(s: &[u32; FLAT]) -> [Split; SPLITS]
 pub fn together(h: &[u32; MOVING], g: &[u32; FIXED], x: [u32; SCALARS], s: &[u32; FLAT]) -> Warp
     ensures { result ≡ warp_of g.now h.now x s.now }
 {
-    let q = unflat(s);
-    let f = fixed_in(g);
     Warp {
-        x: x,
-        splits: q,
-        depth: wide(h[DEPTH]),
+        x,
+        splits: unflat(s),
+        depth: h[DEPTH] as usize,
         pc: h[PC],
         mask: h[MASK],
         rpc: h[RPC],
@@ -231,21 +223,19 @@ pub fn together(h: &[u32; MOVING], g: &[u32; FIXED], x: [u32; SCALARS], s: &[u32
             kind: h[PREFIX],
             bits: h[BITS],
         },
-        fixed: f,
+        fixed: fixed_in(g),
     }
 }
 
 // ---- a state's words
 
-// n words of `from`, from a on, put into `to` from b on.
-fn copy(from: &[u32], a: usize, to: &mut [u32], b: usize, n: usize)
-    requires { (a + n ≤ length from.now) × (b + n ≤ length to.old) }
-    ensures { to.new ≡ paste to.old b (drop a from.now) n }
+// By a loop: `copy_from_slice` tests first whether the two overlap.
+fn copy(from: &[u32], to: &mut [u32])
+    requires { length from.now ≡ length to.old }
+    ensures { to.new ≡ from.now }
 {
-    let mut i: usize = 0;
-    while i < n {
-        to[b + i] = from[a + i];
-        i = i + 1;
+    for i in 0..from.len() {
+        to[i] = from[i];
     }
 }
 
@@ -269,11 +259,10 @@ pub fn get(
     requires { length state.now ≡ state_words }
     ensures { (h.new ≡ moving_part state.now) × (g.new ≡ fixed_part state.now) × (x.new ≡ scalar_part state.now) × (s.new ≡ split_part state.now) }
 {
-    let n = scalars(state);
-    copy(state, 0, x, 0, n);
-    copy(state, SCALARS, s, 0, FLAT);
-    copy(state, MOVING_START, h, 0, MOVING);
-    copy(state, FIXED_START, g, 0, FIXED);
+    copy(&state[..scalars(state)], x);
+    copy(&state[SCALARS..MOVING_START], s);
+    copy(&state[MOVING_START..FIXED_START], h);
+    copy(&state[FIXED_START..], g);
 }
 
 // The words of a warp put one part after another.
@@ -288,8 +277,85 @@ pub fn put(
     ensures { state.new ≡ x.now ++ s.now ++ h.now ++ g.now }
 {
     let n = scalars(state);
-    copy(x, 0, state, 0, n);
-    copy(s, 0, state, SCALARS, FLAT);
-    copy(h, 0, state, MOVING_START, MOVING);
-    copy(g, 0, state, FIXED_START, FIXED);
+    copy(x, &mut state[..n]);
+    copy(s, &mut state[SCALARS..MOVING_START]);
+    copy(h, &mut state[MOVING_START..FIXED_START]);
+    copy(g, &mut state[FIXED_START..]);
+}
+
+// ---- a warp's words together
+
+// A warp's words, part by part.
+#[derive(Clone, Copy)]
+pub struct WarpWords {
+    pub moving: [u32; MOVING],
+    pub fixed: [u32; FIXED],
+    pub scalars: [u32; SCALARS],
+    pub splits: [u32; FLAT],
+}
+
+impl WarpWords {
+    // Room for a warp's words.
+    pub fn zeros() -> WarpWords
+        ensures { result ≡ zero_parts }
+    {
+        WarpWords {
+            moving: [0; MOVING],
+            fixed: [0; FIXED],
+            scalars: [0; SCALARS],
+            splits: [0; FLAT],
+        }
+    }
+
+    // The words of a warp.
+    pub fn of(w: Warp) -> WarpWords
+        requires { w.depth ≤ split_count }
+        ensures { result ≡ parts_of w }
+    {
+        let moving = moving_of(w);
+        let fixed = fixed_of(w.fixed);
+        let scalars = w.x;
+        let splits = flat(w.splits);
+        WarpWords {
+            moving,
+            fixed,
+            scalars,
+            splits,
+        }
+    }
+
+    // The warp that they stand for.
+    pub fn warp(&self) -> Warp
+        ensures { result ≡ warp_from self.now }
+    {
+        together(&self.moving, &self.fixed, self.scalars, &self.splits)
+    }
+
+    // They become the words of a state.
+    pub fn get(&mut self, state: &[u32])
+        requires { length state.now ≡ state_words }
+        ensures { self.new ≡ parts_in state.now }
+    {
+        get(
+            state,
+            &mut self.moving,
+            &mut self.fixed,
+            &mut self.scalars,
+            &mut self.splits,
+        );
+    }
+
+    // They are put into a state.
+    pub fn put(&self, state: &mut [u32])
+        requires { length state.old ≡ state_words }
+        ensures { state.new ≡ state_from self.now }
+    {
+        put(
+            &self.moving,
+            &self.fixed,
+            &self.scalars,
+            &self.splits,
+            state,
+        );
+    }
 }

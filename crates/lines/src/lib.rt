@@ -94,10 +94,8 @@ fn put_warps(out: &mut [u8], at: usize, state: &[u32], n: usize) -> usize
     ensures { Puts out.old at (warp_lines n state.now) out.new result × (result ≤ at + n * 88) }
 {
     let mut end = at;
-    let mut i = 0;
-    while i < n {
+    for i in 0..n {
         end = put_warp(out, end, state, i);
-        i += 1;
     }
     end
 }

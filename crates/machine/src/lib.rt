@@ -1,30 +1,31 @@
 // The public calls of the bench machine that step a warp: step and run. Each answers for all inputs, and asks nothing of its caller. Launch and release are in launch_release.
 #![tactic(auto)]
 
-ghost use Rattle.std.specs.Prelude.{◌≡◌, ◌<◌};
+ghost use Rattle.std.specs.Prelude.{◌≡◌, ◌<◌, Err};
+ghost use Rattle.std.specs.Result.{result_unwrap_or};
 ghost use Rattle.answer.specs.Answer.{number_of};
 ghost use Rattle.memory.specs.Memories.{alone};
 ghost use Rattle.definition.specs.State.{state, outcome};
 ghost use Rattle.definition.specs.Step.{step_of};
 ghost use Rattle.definition.specs.Calls.{ran, budget_limit, run_of};
 
-use answer::{Answer, Refusal};
-use launch_release::Left;
+use answer::Refusal;
+use layout::WarpWords;
 use warp::{SPLITS, Warp};
 
-// What a run leaves; `steps` counts the steps that were taken.
-#[derive(Drop)]
+// What a run leaves, refused or not; `steps` counts the steps that were taken.
+#[derive(Clone, Copy)]
 pub struct RunLeft {
-    pub answer: Answer,
+    pub answer: Result<(), Refusal>,
     pub steps: u32,
     pub warp: Warp,
 }
 
-fn refused_run(r: Refusal, w: Warp) -> RunLeft
-    ensures { result ≡ record { answer = Answer.Refused r; steps = 0; warp = w } }
+fn refused_run(why: Refusal, w: Warp) -> RunLeft
+    ensures { result ≡ record { answer = Err why; steps = 0; warp = w } }
 {
     RunLeft {
-        answer: Answer::Refused(r),
+        answer: Err(why),
         steps: 0,
         warp: w,
     }
@@ -42,28 +43,22 @@ pub fn run(w: Warp, kernel: &[u32], vector: &mut [u32], bytes: &mut [u8], budget
     if SPLITS < w.depth {
         return refused_run(Refusal::Malformed, w);
     }
-    let q = w.splits;
-    let g = layout::fixed_of(f);
-    let mut h = layout::moving_of(w);
-    let mut x = w.x;
-    let mut s = layout::flat(q);
-    let end = drive::run_words(
-        &mut h, &g, &mut x, &mut s, kernel, vector, bytes, &mut none, budget,
-    );
-    let u = layout::together(&h, &g, x, &s);
+    let mut words = WarpWords::of(w);
+    let end = drive::run_words(&mut words, kernel, vector, bytes, &mut none, budget);
     RunLeft {
-        answer: answer::answer_of(end.code),
+        answer: end.answer,
         steps: end.steps,
-        warp: u,
+        warp: words.warp(),
     }
 }
 
 // One step.
-pub fn step(w: Warp, kernel: &[u32], vector: &mut [u32], bytes: &mut [u8]) -> Left
-    ensures { outcome (number_of result.answer) (state result.warp vector.new (alone bytes.new)) ≡ step_of kernel.now (state w vector.old (alone bytes.old)) }
+pub fn step(w: Warp, kernel: &[u32], vector: &mut [u32], bytes: &mut [u8]) -> Result<Warp, Refusal>
+    ensures { outcome (number_of result) (state (result_unwrap_or result w) vector.new (alone bytes.new)) ≡ step_of kernel.now (state w vector.old (alone bytes.old)) }
 {
-    let r = run(w, kernel, vector, bytes, 1);
-    let a = r.answer;
-    let u = r.warp;
-    Left { answer: a, warp: u }
+    let end = run(w, kernel, vector, bytes, 1);
+    match end.answer {
+        Ok(()) => Ok(end.warp),
+        Err(why) => Err(why),
+    }
 }

@@ -16,7 +16,7 @@ use Rattle.isa.specs.declared.VReg.{VReg}
 use Rattle.lanes.specs.declared.Lane.{Lane}
 use Rattle.lanes.specs.Lanes.{lane_of, write_lanes}
 use Rattle.lanes.proofs.Laws.{newest, each_grows, each_keeps, each_same, write_same, all_hold, all_same, ok_when, ok_same}
-use Rattle.memory.specs.declared.Loaded.TheVariants.{Found, Outside}
+use Rattle.std.specs.Prelude.{Some, None}
 use Rattle.memory.specs.declared.Private.{Private}
 use Rattle.memory.specs.Bytes.{le_bytes}
 use Rattle.memory.specs.Memory.{Memory, size_of, width_of, inside_of, has_of, index_in, load_of, store_of}
@@ -27,11 +27,11 @@ use Rattle.memory.proofs.Access.{inside_true, all_inside_at, inside_at, bytes_at
 use Rattle.memory.proofs.Agree.{has_true, true_has, all_agreed}
 
 -- what a scalar load finds
-pub found_inside : (t : Bool) (y v : ℕ) → Found y ≡ cond t (Found v) Outside → (t ≡ true) × (y ≡ v)
+pub found_inside : (t : Bool) (y v : ℕ) → Some y ≡ cond t (Some v) None → (t ≡ true) × (y ≡ v)
 found_inside true y v e = (refl, cc)
 found_inside false y v e = let z : true ≡ false = cc in (cc, cc)
 
-pub outside_is : (t : Bool) (v : ℕ) → Outside ≡ cond t (Found v) Outside → t ≡ false
+pub outside_is : (t : Bool) (v : ℕ) → None ≡ cond t (Some v) None → t ≡ false
 outside_is true v e = cc
 outside_is false v e = refl
 

@@ -8,13 +8,6 @@ ghost use Rattle.memory.specs.Address.{plain_of, offset_limit};
 
 use isa::{LoadOp, StoreOp};
 
-// What a scalar load finds.
-#[derive(Clone, Copy)]
-pub enum Loaded {
-    Found(u32),
-    Outside,
-}
-
 // What a private address takes from the launch.
 #[derive(Clone, Copy)]
 pub struct Private {
@@ -26,11 +19,9 @@ pub fn size(k: LoadOp) -> usize
     ensures { (result ≡ size_of k) × (1 ≤ result) × (result ≤ 4) }
 {
     match k {
-        LoadOp::B => 1,
-        LoadOp::H => 2,
+        LoadOp::B | LoadOp::Bu => 1,
+        LoadOp::H | LoadOp::Hu => 2,
         LoadOp::W => 4,
-        LoadOp::Bu => 1,
-        LoadOp::Hu => 2,
     }
 }
 
@@ -49,5 +40,5 @@ pub fn plain_address(x: u32, off: u16) -> u32
     requires { off < offset_limit spaces.Plain }
     ensures { result ≡ plain_of x off }
 {
-    word::add(x, word::extend(12, off as u32))
+    word::add(x, word::extend(12, u32::from(off)))
 }

@@ -1,7 +1,7 @@
 // The program that makes a model sheet. Its arguments: the paths of card, kernel and data, and where the sheet is to go; without that, a table is printed.
 #![tactic(auto)]
 
-use files::{CARD_BUFFER, DATA_BUFFER, KERNEL_BUFFER};
+use files::{CARD_BUFFER, DATA_BUFFER, KERNEL_BUFFER, VECTOR_WORDS};
 use sheet_lines::SHEET_ROOM;
 use sheet_table::TABLE_ROOM;
 use sheet_text::LINE_ROOM;
@@ -58,41 +58,35 @@ fn write_file(rt: &impl Files, path: &[u8], bytes: &[u8]) -> bool {
 fn write_sheet(rt: &(impl Files + Env + Print), sheet: &[u8]) {
     let mut name = [0u8; NAME_BUFFER];
     let mut out = [0u8; LINE_BUFFER];
-    let n = files::argument(rt, TARGET, &mut name);
-    if write_file(rt, &name[..n], sheet) {
+    let name = files::argument(rt, TARGET, &mut name);
+    if write_file(rt, name, sheet) {
         let steps = sheet_lines::steps_in(sheet);
-        let size = sheet_text::written_line(&name[..n], steps, sheet.len(), &mut out);
+        let size = sheet_text::written_line(name, steps, sheet.len(), &mut out);
         files::print_bytes(rt, &out[..size]);
-        return;
+    } else {
+        let size = sheet_text::unwritten_line(name, &mut out);
+        files::print_bytes(rt, &out[..size]);
+        files::tell_failure(rt);
     }
-    let size = sheet_text::unwritten_line(&name[..n], &mut out);
-    files::print_bytes(rt, &out[..size]);
-    files::tell_failure(rt);
 }
 
 fn main(rt: HostRuntime) {
-    let mut cards = [0u8; CARD_BUFFER];
-    let mut kernels = [0u8; KERNEL_BUFFER];
+    let mut card = [0u8; CARD_BUFFER];
+    let mut kernel = [0u8; KERNEL_BUFFER];
     let mut memory = [0u8; DATA_BUFFER];
-    let mut vector = [0u32; 8192];
+    let mut vector = [0u32; VECTOR_WORDS];
     let mut target = [0u8; SHEET_ROOM];
-    let c = files::read_argument(&rt, CARD, &mut cards);
-    let k = files::read_argument(&rt, KERNEL, &mut kernels);
-    let b = files::read_argument(&rt, DATA, &mut memory);
-    let own = sheet_files::model_files(
-        &cards[..c],
-        &kernels[..k],
-        &mut memory[..b],
-        &mut vector,
-        &mut target,
-    );
-    let a = own.answer;
-    let number = answer::number(a);
-    if number != answer::DONE {
-        print_refusal(&rt, number);
-        return;
-    }
-    let n = io::count(own.written as isize, &target);
+    let card = files::read_argument(&rt, CARD, &mut card);
+    let kernel = files::read_argument(&rt, KERNEL, &mut kernel);
+    let bytes = files::read_argument(&rt, DATA, &mut memory);
+    let written = match sheet_files::model_files(card, kernel, bytes, &mut vector, &mut target) {
+        Ok(written) => written as usize,
+        Err(why) => {
+            print_refusal(&rt, why.number());
+            return;
+        }
+    };
+    let n = target.len().min(written);
     if TARGET < files::argument_count(&rt) {
         write_sheet(&rt, &target[..n]);
     } else {

@@ -27,19 +27,15 @@ fn print_kernel(
     requires { room_needed ≤ length out.old }
     ensures { (printed result out.new vector.new bytes.new ≡ put_into out.old (kernel_report kernel.now l vector.old bytes.old)) × (result ≤ room_needed) }
 {
-    let left = launch_release::launch(l, kernel, vector, bytes);
-    let a = left.answer;
-    let code = answer::number(a);
-    if code != answer::DONE {
-        return lines::put_code_line(out, code);
-    }
-    let w = left.warp;
+    let w = match launch_release::launch(l, kernel, vector, bytes) {
+        Ok(w) => w,
+        Err(why) => return lines::put_code_line(out, why.number()),
+    };
     let ran = machine::run(w, kernel, vector, bytes, BUDGET);
-    let b = ran.answer;
     let u = ran.warp;
     lines::put_five_lines(
         out,
-        answer::number(b),
+        answer::number(&ran.answer),
         ran.steps as u64,
         u.pc,
         u.mask,
@@ -58,16 +54,13 @@ fn print_card(
     requires { room_needed ≤ length out.old }
     ensures { (printed result out.new vector.new bytes.new ≡ put_into out.old (report_of card.now kernel.now vector.old bytes.old)) × (result ≤ room_needed) }
 {
-    let read = launch_files::read_files(card, kernel, bytes);
-    let a = read.answer;
-    let code = answer::number(a);
-    if code != answer::DONE {
-        return lines::put_code_line(out, code);
-    }
+    let l = match launch_files::read_files(card, kernel, bytes) {
+        Ok(l) => l,
+        Err(why) => return lines::put_code_line(out, why.number()),
+    };
     let mut words = [0u32; KERNEL_WORDS];
     launch_files::put_words(kernel, &mut words);
     let n = kernel.len() / 4;
-    let l = read.launch;
     print_kernel(l, &words[..n], vector, bytes, out)
 }
 

@@ -23,8 +23,7 @@ pub fn get_x(x: &[u32; SCALARS], r: XReg) -> u32
     requires { r.0 < scalar_registers }
     ensures { result ≡ get_or x.now r.0 0 }
 {
-    let i = r.0 as usize;
-    x[i]
+    x[r.0 as usize]
 }
 
 pub fn put_x(x: &mut [u32; SCALARS], r: XReg, y: u32)
@@ -98,8 +97,7 @@ fn csr_at(h: &[u32; MOVING], g: &[u32; FIXED], n: u16) -> u32
         h[PRINT],
         h[RPC],
     ];
-    let i = (n - 0x800) as usize;
-    table[i]
+    table[(n - 0x800) as usize]
 }
 
 // CSRRS and CSRRC write nothing where rs1 is 0.
@@ -108,8 +106,7 @@ pub fn csr_writes(op: CsrOp, rs1: u8) -> bool
 {
     match op {
         CsrOp::Rw => true,
-        CsrOp::Rs => rs1 != 0,
-        CsrOp::Rc => rs1 != 0,
+        CsrOp::Rs | CsrOp::Rc => rs1 != 0,
     }
 }
 

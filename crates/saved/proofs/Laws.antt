@@ -1,16 +1,12 @@
--- What the tests and the copies do with a state's words.
+-- What the tests do with a state's words.
 use Prim.Native.Nat.{ℕ, zero, suc, ◌-◌, ◌<◌, ◌≤◌}
 use mathlib.Core.Path.{◌≡◌, refl, ◌∙◌}
 use mathlib.Core.Bool.{true, false}
 use mathlib.Core.List.{List}
 use native.Mathlib.Omega.{arith}
 use borrow.Author.Tests.{le-leb, lt-leb}
-use Rattle.layout.specs.Words.{phase_at, phases_ok_of, warp_of, scalar_part, split_part, moving_part, fixed_part, warp_in}
+use Rattle.layout.specs.Words.{phase_at, phases_ok_of}
 use Rattle.layout.proofs.Splits.{phases_step}
-
--- the parts of a state copied
-pub parts_warp : (t g h x s : List ℕ) → g ≡ fixed_part t → h ≡ moving_part t → x ≡ scalar_part t → s ≡ split_part t → warp_of g h x s ≡ warp_in t
-parts_warp t g h x s eg eh ex es = rw (eg, eh, ex, es)
 
 -- ---- phases
 

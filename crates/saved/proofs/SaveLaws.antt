@@ -1,18 +1,19 @@
 -- The two calls by cases; two results that a contract allows are equal.
 use Prim.Native.Nat.{ℕ, ◌≤◌, ◌<◌}
-use mathlib.Core.Path.{◌≡◌, refl, sym, ◌∙◌, ap, ap₂}
+use mathlib.Core.Path.{◌≡◌, refl, sym, ◌∙◌, ap}
 use mathlib.Core.Bool.{true, false}
 use mathlib.Core.List.{List}
 use lib.ListN.{length, replicate}
 use borrow.Author.Tests.{ne_eqb, le-leb, lt-leb}
-use Rattle.answer.specs.declared.Answer.{Answer}
+use Rattle.std.specs.Prelude.{Result}
+use Rattle.std.specs.Result.{result_unwrap_or}
+use Rattle.answer.specs.declared.Refusal.{Refusal}
 use Rattle.answer.specs.Answer.{number_of}
 use Rattle.answer.proofs.Numbers.{number_one}
 use Rattle.warp.specs.declared.Warp.{Warp}
 use Rattle.warp.specs.Warp.{split_count, zero_warp, Answered, answered}
 use Rattle.layout.specs.Words.{state_words, split_part, moving_part, warp_of, splits_words, words_of, warp_in, sound_in}
 use Rattle.layout.proofs.Words.{sound_parts}
-use Rattle.saved.specs.declared.ReadState.{ReadState}
 use Rattle.saved.specs.Saved.{Saving, saving, save_of, restore_of}
 
 -- ---- by cases
@@ -58,12 +59,12 @@ module _ (t : List ℕ) (ok : sound_in t ≡ true) where
 
 -- ---- two results that a contract allows
 
-pub save_determined : (w : Warp) (t : List ℕ) (a b : Answer) (u v : List ℕ) → saving (number_of a) u ≡ save_of w t → saving (number_of b) v ≡ save_of w t → (a ≡ b) × (u ≡ v)
+pub save_determined : (w : Warp) (t : List ℕ) (a b : Result Unit Refusal) (u v : List ℕ) → saving (number_of a) u ≡ save_of w t → saving (number_of b) v ≡ save_of w t → (a ≡ b) × (u ≡ v)
 save_determined w t a b u v p q =
     let e : saving (number_of a) u ≡ saving (number_of b) v = p ∙ sym q in
-    (number_one a b (ap (λ (x : Saving). x.number) e), ap (λ (x : Saving). x.state) e)
+    (number_one tt a b (ap (λ (x : Saving). x.number) e) refl, ap (λ (x : Saving). x.state) e)
 
-pub restore_determined : (t : List ℕ) (r s : ReadState) → answered (number_of r.answer) r.warp ≡ restore_of t → answered (number_of s.answer) s.warp ≡ restore_of t → r ≡ s
+pub restore_determined : (t : List ℕ) (r s : Result Warp Refusal) → answered (number_of r) (result_unwrap_or r zero_warp) ≡ restore_of t → answered (number_of s) (result_unwrap_or s zero_warp) ≡ restore_of t → r ≡ s
 restore_determined t r s p q =
-    let e : answered (number_of r.answer) r.warp ≡ answered (number_of s.answer) s.warp = p ∙ sym q in
-    ap₂ (λ (a : Answer) (w : Warp). record { answer = a; warp = w }) (number_one r.answer s.answer (ap (λ (x : Answered). x.code) e)) (ap (λ (x : Answered). x.warp) e)
+    let e : answered (number_of r) (result_unwrap_or r zero_warp) ≡ answered (number_of s) (result_unwrap_or s zero_warp) = p ∙ sym q in
+    number_one zero_warp r s (ap (λ (x : Answered). x.code) e) (ap (λ (x : Answered). x.warp) e)

@@ -22,21 +22,21 @@ use Rattle.handlers.proofs.Laws.{given, told}
 
 module _ (k w : ℕ) (o : Op) where
   pub reg_arm :
-      (y c : ℕ) (h x h' x' : List ℕ) → row_of k (fields_of w) ≡ op_as o (fields_of w)
+      (y : ℕ) (h x h' x' : List ℕ) → row_of k (fields_of w) ≡ op_as o (fields_of w)
       → y ≡ apply_of o (get_or x (xs1_in w).0 0) (get_or x (xs2_in w).0 0)
-      → (c ≡ 0) × ((g s : List ℕ) → length s ≡ flat_count → Goes (puts_in (xd_in w) y) g h x s h' x' s)
-      → (g s v : List ℕ) (d : Contents) → length s ≡ flat_count → Handles (exec_of (wide_of k w)) c (lists g h x s v d) (lists g h' x' s v d)
+      → ((g s : List ℕ) → length s ≡ flat_count → Goes (puts_in (xd_in w) y) g h x s h' x' s)
+      → (g s v : List ℕ) (d : Contents) → length s ≡ flat_count → Handles (exec_of (wide_of k w)) 0 (lists g h x s v d) (lists g h' x' s v d)
   unfolding warp_of effect_of refusals_of
-  reg_arm y c h x h' x' e ey q g s v d n =
-      told (ap (on_fields (numbers_in w)) e) (given (I.OpReg o (xd_in w) (xs1_in w) (xs2_in w)) (xd_in w) y c g h x s v d h' x' q.0 (q.1 g s n) refl
+  reg_arm y h x h' x' e ey q g s v d n =
+      told (ap (on_fields (numbers_in w)) e) (given (I.OpReg o (xd_in w) (xs1_in w) (xs2_in w)) (xd_in w) y 0 g h x s v d h' x' refl (q g s n) refl
       (ap (λ (z : ℕ). goes (puts_in (xd_in w) z (warp_of g h x s))) (sym ey)))
 
   pub imm_arm :
-      (m y c : ℕ) (h x h' x' : List ℕ) → row_of k (fields_of w) ≡ I.OpImm o (x_of (fields_of w).rd) (x_of (fields_of w).rs1) m
+      (m y : ℕ) (h x h' x' : List ℕ) → row_of k (fields_of w) ≡ I.OpImm o (x_of (fields_of w).rd) (x_of (fields_of w).rs1) m
       → y ≡ apply_of o (get_or x (xs1_in w).0 0) (extend_of 12 m)
-      → (c ≡ 0) × ((g s : List ℕ) → length s ≡ flat_count → Goes (puts_in (xd_in w) y) g h x s h' x' s)
-      → (g s v : List ℕ) (d : Contents) → length s ≡ flat_count → Handles (exec_of (wide_of k w)) c (lists g h x s v d) (lists g h' x' s v d)
+      → ((g s : List ℕ) → length s ≡ flat_count → Goes (puts_in (xd_in w) y) g h x s h' x' s)
+      → (g s v : List ℕ) (d : Contents) → length s ≡ flat_count → Handles (exec_of (wide_of k w)) 0 (lists g h x s v d) (lists g h' x' s v d)
   unfolding warp_of effect_of refusals_of
-  imm_arm m y c h x h' x' e ey q g s v d n =
-      told (ap (on_fields (numbers_in w)) e) (given (I.OpImm o (xd_in w) (xs1_in w) m) (xd_in w) y c g h x s v d h' x' q.0 (q.1 g s n) refl
+  imm_arm m y h x h' x' e ey q g s v d n =
+      told (ap (on_fields (numbers_in w)) e) (given (I.OpImm o (xd_in w) (xs1_in w) m) (xd_in w) y 0 g h x s v d h' x' refl (q g s n) refl
       (ap (λ (z : ℕ). goes (puts_in (xd_in w) z (warp_of g h x s))) (sym ey)))

@@ -9,6 +9,7 @@ use Rattle.definition.specs.Refuse.{launch_tests}
 use Rattle.definition.specs.Calls.{launch_of, run_of}
 use Rattle.sheet_lines.specs.declared.Marks.{Marks}
 use Rattle.sheet_lines.specs.declared.Marks.TheVariants.{NoMarks}
+use Rattle.sheet.specs.declared.Marked.{Marked}
 use Rattle.sheet_lines.specs.Sheet.{step_limit, sheet_size, lines_of, sheet_of, sheet_ok_of, lines_in}
 use Rattle.sheet_lines.specs.Compare.{compare_of}
 
@@ -51,6 +52,10 @@ pub record Marking : Type 0 where
   pub marks : Marks
   pub steps : ℕ
   pub left : LentRuns
+
+-- what a refused one is worth
+abbrev pub unmarked : Marked
+unmarked = record { marks = NoMarks; steps = 0 }
 
 abbrev pub marking : ℕ → Marks → ℕ → LentRuns → Marking
 marking n a t e = record { number = n; marks = a; steps = t; left = e }

@@ -2,31 +2,24 @@
 #![tactic(auto)]
 
 ghost use Rattle.std.specs.Prelude.{◌≡◌, ◌&&◌, ◌≤◌, length};
+ghost use Rattle.std.specs.Result.{result_unwrap_or};
 ghost use Rattle.answer.specs.Answer.{number_of};
 ghost use Rattle.memory.specs.Memories.{alone};
 ghost use Rattle.warp.specs.WellFormed.{launch_ok_of};
 ghost use Rattle.definition.specs.State.{state};
 ghost use Rattle.definition.specs.Refuse.{runs_ok_of};
-ghost use Rattle.sheet.specs.Mark.{own_start, lent_runs, marking, mark_of, modelling, model_of, sheet_room};
+ghost use Rattle.sheet.specs.Mark.{own_start, lent_runs, unmarked, marking, mark_of, modelling, model_of, sheet_room};
 ghost use Rattle.sheet.specs.Traces.{Traces};
 
-use answer::{Answer, Refusal};
+use answer::Refusal;
 use sheet_lines::{HEAD_SIZE, LINE_SIZE, Marks, SHEET_ROOM, STEP_LIMIT};
 use warp::{Launch, Warp};
 
-// What marking answers: where refused, no marks and no steps. `steps` counts those of the run.
-#[derive(Drop)]
+// What a sheet is worth, and how many steps the run has.
+#[derive(Clone, Copy)]
 pub struct Marked {
-    pub answer: Answer,
     pub marks: Marks,
     pub steps: u32,
-}
-
-// What writing the model sheet answers: `written` counts its bytes, none where refused.
-#[derive(Drop)]
-pub struct Modelled {
-    pub answer: Answer,
-    pub written: u32,
 }
 
 // ---- the run
@@ -37,20 +30,15 @@ fn trace(start: Warp, kernel: &[u32], vector: &mut [u32], bytes: &mut [u8], t: &
     ensures { Traces kernel.now (state start vector.old (alone bytes.old)) result vector.new bytes.new t.old t.new }
 {
     let mut w = start;
-    let mut n = 0;
-    while n < STEP_LIMIT {
+    for n in 0..STEP_LIMIT {
         let word = sheet_lines::word_on(kernel, w);
-        let left = machine::step(w, kernel, vector, bytes);
-        let a = left.answer;
-        if answer::number(a) != answer::DONE {
-            break;
-        }
-        let u = left.warp;
+        let Ok(u) = machine::step(w, kernel, vector, bytes) else {
+            return n;
+        };
         sheet_lines::put_line(t, HEAD_SIZE + LINE_SIZE * n, w.pc, word, u.mask, u.depth);
         w = u;
-        n += 1;
     }
-    n
+    STEP_LIMIT
 }
 
 // A launch's own tests.
@@ -62,7 +50,7 @@ fn may_launch(l: Launch, kernel: &[u32], vector: &[u32], bytes: &[u8]) -> bool
     sizes::runs_ok(f, kernel, vector, bytes, &none) & warp::launch_ok(l)
 }
 
-// The run from a launch that is not refused.
+// The run of a launch, which the callers have tested; answers how many steps it took.
 fn trace_launch(
     l: Launch,
     kernel: &[u32],
@@ -73,81 +61,63 @@ fn trace_launch(
     requires { sheet_room ≤ length t.old }
     ensures { Traces kernel.now (own_start kernel.now l vector.old bytes.old) result vector.new bytes.new t.old t.new }
 {
-    let left = launch_release::launch(l, kernel, vector, bytes);
-    let w = left.warp;
+    let launched = launch_release::launch(l, kernel, vector, bytes);
+    let w = launched.unwrap_or(warp::zero_warp());
     trace(w, kernel, vector, bytes, t)
 }
 
 // ---- marking
 
-fn unmarked(why: Refusal) -> Marked
-    ensures { result ≡ record { answer = Answer.Refused why; marks = Marks.NoMarks; steps = 0 } }
-{
-    Marked {
-        answer: Answer::Refused(why),
-        marks: Marks::NoMarks,
-        steps: 0,
-    }
-}
-
 // What the sheet is worth against the launch's run, and how many steps that run has.
-pub fn mark(l: Launch, kernel: &[u32], vector: &mut [u32], bytes: &mut [u8], sheet: &[u8]) -> Marked
-    ensures { marking (number_of result.answer) result.marks result.steps (lent_runs vector.new bytes.new) ≡ mark_of kernel.now l vector.old bytes.old sheet.now }
+pub fn mark(
+    l: Launch,
+    kernel: &[u32],
+    vector: &mut [u32],
+    bytes: &mut [u8],
+    sheet: &[u8],
+) -> Result<Marked, Refusal>
+    ensures { marking (number_of result) (result_unwrap_or result unmarked).marks (result_unwrap_or result unmarked).steps (lent_runs vector.new bytes.new) ≡ mark_of kernel.now l vector.old bytes.old sheet.now }
 {
     if !may_launch(l, kernel, vector, bytes) {
-        return unmarked(Refusal::Size);
+        return Err(Refusal::Size);
     }
     if !sheet_lines::sheet_ok(sheet) {
-        return unmarked(Refusal::BadSheet);
+        return Err(Refusal::BadSheet);
     }
     let mut own = [0u8; SHEET_ROOM];
     let n = trace_launch(l, kernel, vector, bytes, &mut own);
     if n == 0 {
-        return unmarked(Refusal::NoSteps);
+        return Err(Refusal::NoSteps);
     }
     let m = (sheet.len() - HEAD_SIZE) / LINE_SIZE;
-    let found = sheet_lines::compare(&own, n, sheet, m);
-    Marked {
-        answer: Answer::Done,
-        marks: found,
+    Ok(Marked {
+        marks: sheet_lines::compare(&own, n, sheet, m),
         steps: n as u32,
-    }
+    })
 }
 
 // ---- the model sheet
 
-fn unwritten(why: Refusal) -> Modelled
-    ensures { result ≡ record { answer = Answer.Refused why; written = 0 } }
-{
-    Modelled {
-        answer: Answer::Refused(why),
-        written: 0,
-    }
-}
-
-// The run's own sheet at the start of `target`, whose bytes past it stay.
+// The run's own sheet at the start of `target`, whose bytes past it stay; answers how many bytes it has.
 pub fn model(
     l: Launch,
     kernel: &[u32],
     vector: &mut [u32],
     bytes: &mut [u8],
     target: &mut [u8],
-) -> Modelled
-    ensures { modelling (number_of result.answer) result.written target.new (lent_runs vector.new bytes.new) ≡ model_of kernel.now l vector.old bytes.old target.old }
+) -> Result<u32, Refusal>
+    ensures { modelling (number_of result) (result_unwrap_or result 0) target.new (lent_runs vector.new bytes.new) ≡ model_of kernel.now l vector.old bytes.old target.old }
 {
     if !may_launch(l, kernel, vector, bytes) {
-        return unwritten(Refusal::Size);
+        return Err(Refusal::Size);
     }
     if target.len() < SHEET_ROOM {
-        return unwritten(Refusal::Size);
+        return Err(Refusal::Size);
     }
     let n = trace_launch(l, kernel, vector, bytes, target);
     if n == 0 {
-        return unwritten(Refusal::NoSteps);
+        return Err(Refusal::NoSteps);
     }
     sheet_lines::put_head(target, n);
-    Modelled {
-        answer: Answer::Done,
-        written: (HEAD_SIZE + LINE_SIZE * n) as u32,
-    }
+    Ok((HEAD_SIZE + LINE_SIZE * n) as u32)
 }

@@ -14,23 +14,23 @@ use Rattle.sheet_text.specs.Put.{Put, mark_line_into}
 use Rattle.sheet_files.specs.SheetFiles.{marked_of, modelled_of, lined, line_buffers_ok, mark_files_of}
 
 -- t the sheet that is marked, or the target
-module _ (c k d v t : List ℕ) (r : Reading) (e : r ≡ read_files_of c k d) (n : ℕ) (is : n ≡ r.number) where
-  pub mark_refused : (n ≡ 0 → ⊥) → marking r.number NoMarks 0 (lent_runs v d) ≡ marked_of c k d v t
+module _ (c k d v t : List ℕ) (r : Reading) (e : r ≡ read_files_of c k d) where
+  pub mark_refused : (r.number ≡ 0 → ⊥) → marking r.number NoMarks 0 (lent_runs v d) ≡ marked_of c k d v t
   unfolding marked_of
-  mark_refused h = rw (← e, ← is, ne_eqb n 0 h)
+  mark_refused h = rw (← e, ne_eqb r.number 0 h)
 
-  pub model_refused : (n ≡ 0 → ⊥) → modelling r.number 0 t (lent_runs v d) ≡ modelled_of c k d v t
+  pub model_refused : (r.number ≡ 0 → ⊥) → modelling r.number 0 t (lent_runs v d) ≡ modelled_of c k d v t
   unfolding modelled_of
-  model_refused h = rw (← e, ← is, ne_eqb n 0 h)
+  model_refused h = rw (← e, ne_eqb r.number 0 h)
 
-  module _ (h : n ≡ 0) (ws : List ℕ) (w : ws ≡ kernel_words_of k) where
+  module _ (h : r.number ≡ 0) (ws : List ℕ) (w : ws ≡ kernel_words_of k) where
     pub mark_taken : mark_of ws r.launch v d t ≡ marked_of c k d v t
     unfolding marked_of
-    mark_taken = rw (← e, ← is, h, w)
+    mark_taken = rw (← e, h, w)
 
     pub model_taken : model_of ws r.launch v d t ≡ modelled_of c k d v t
     unfolding modelled_of
-    model_taken = rw (← e, ← is, h, w)
+    model_taken = rw (← e, h, w)
 
 -- ---- the line
 

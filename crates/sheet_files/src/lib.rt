@@ -2,19 +2,28 @@
 #![tactic(auto)]
 
 ghost use Rattle.std.specs.Prelude.{◌≡◌};
+ghost use Rattle.std.specs.Result.{result_unwrap_or};
 ghost use Rattle.answer.specs.Answer.{number_of};
 ghost use Rattle.io.specs.Counts.{IsPrefixLen};
 ghost use Rattle.sheet_lines.specs.Compare.{marks_step};
-ghost use Rattle.sheet.specs.Mark.{lent_runs, marking, modelling};
+ghost use Rattle.sheet.specs.Mark.{lent_runs, unmarked, marking, modelling};
 ghost use Rattle.sheet_files.specs.SheetFiles.{marked_of, modelled_of, lined, line_buffers_ok, mark_files_of};
 
+use answer::Refusal;
 use launch_files::KERNEL_WORDS;
-use sheet::{Marked, Modelled};
+use sheet::Marked;
 use sheet_lines::Marks;
 
 const FILE_WORDS: usize = 8192;
 
-// The length of a sheet's line, the refusal's number, and the differing step, 0 where there is none.
+// What a refused marking is worth.
+const UNMARKED: Marked = Marked {
+    marks: Marks::NoMarks,
+    steps: 0,
+};
+
+// The length of a sheet's line, the refusal's number, and the differing step, 0 where there is none: numbers, since the clause of
+// mark_files (`lined`) has a length and a line beside a refusal too.
 #[derive(Drop)]
 pub struct Line {
     pub size: usize,
@@ -29,22 +38,13 @@ fn mark_run(
     bytes: &mut [u8],
     vector: &mut [u32],
     sheet: &[u8],
-) -> Marked
-    ensures { marking (number_of result.answer) result.marks result.steps (lent_runs vector.new bytes.new) ≡ marked_of card.now kernel.now bytes.old vector.old sheet.now }
+) -> Result<Marked, Refusal>
+    ensures { marking (number_of result) (result_unwrap_or result unmarked).marks (result_unwrap_or result unmarked).steps (lent_runs vector.new bytes.new) ≡ marked_of card.now kernel.now bytes.old vector.old sheet.now }
 {
-    let read = launch_files::read_files(card, kernel, bytes);
-    let a = read.answer;
-    if answer::number(a) != answer::DONE {
-        return Marked {
-            answer: a,
-            marks: Marks::NoMarks,
-            steps: 0,
-        };
-    }
+    let l = launch_files::read_files(card, kernel, bytes)?;
     let mut words = [0u32; KERNEL_WORDS];
     launch_files::put_words(kernel, &mut words);
     let n = kernel.len() / 4;
-    let l = read.launch;
     sheet::mark(l, &words[..n], vector, bytes, sheet)
 }
 
@@ -71,17 +71,16 @@ pub fn mark_files(
     if !buffers_ok(vector, name, out) {
         return Line {
             size: 0,
-            number: answer::SIZE,
+            number: Refusal::Size.number(),
             step: 0,
         };
     }
     let got = mark_run(card, kernel, bytes, vector, sheet);
-    let a = got.answer;
-    let m = got.marks;
-    let number = answer::number(a);
+    let number = answer::number(&got);
+    let marked = got.unwrap_or(UNMARKED);
     let given = sheet_lines::steps_in(sheet);
-    let size = sheet_text::mark_line(name, number, m, given, got.steps, out);
-    let step = sheet_lines::marks_step(m);
+    let size = sheet_text::mark_line(name, number, marked.marks, given, marked.steps, out);
+    let step = sheet_lines::marks_step(marked.marks);
     Line { size, number, step }
 }
 
@@ -92,20 +91,12 @@ pub fn model_files(
     bytes: &mut [u8],
     vector: &mut [u32],
     target: &mut [u8],
-) -> Modelled
-    ensures { modelling (number_of result.answer) result.written target.new (lent_runs vector.new bytes.new) ≡ modelled_of card.now kernel.now bytes.old vector.old target.old }
+) -> Result<u32, Refusal>
+    ensures { modelling (number_of result) (result_unwrap_or result 0) target.new (lent_runs vector.new bytes.new) ≡ modelled_of card.now kernel.now bytes.old vector.old target.old }
 {
-    let read = launch_files::read_files(card, kernel, bytes);
-    let a = read.answer;
-    if answer::number(a) != answer::DONE {
-        return Modelled {
-            answer: a,
-            written: 0,
-        };
-    }
+    let l = launch_files::read_files(card, kernel, bytes)?;
     let mut words = [0u32; KERNEL_WORDS];
     launch_files::put_words(kernel, &mut words);
     let n = kernel.len() / 4;
-    let l = read.launch;
     sheet::model(l, &words[..n], vector, bytes, target)
 }

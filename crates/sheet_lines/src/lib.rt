@@ -49,11 +49,8 @@ pub fn marks_step(m: Marks) -> u32
     ensures { result ≡ marks_step m }
 {
     match m {
-        Marks::NoMarks => 0,
-        Marks::Full => 0,
         Marks::Differs(n) => n,
-        Marks::Short => 0,
-        Marks::Long => 0,
+        Marks::NoMarks | Marks::Full | Marks::Short | Marks::Long => 0,
     }
 }
 
@@ -61,23 +58,14 @@ pub fn marks_step(m: Marks) -> u32
 fn word_in(kernel: &[u32], place: usize) -> u32
     ensures { result ≡ get_or kernel.now place 0 }
 {
-    if kernel.len() <= place {
-        return 0;
-    }
-    kernel[place]
+    kernel.get(place).copied().unwrap_or(0)
 }
 
 // The word that the PC lies on.
 pub fn word_on(kernel: &[u32], w: Warp) -> u32
     ensures { result ≡ get_or kernel.now (place_of w) 0 }
 {
-    let f = w.fixed;
-    let base = f.codeBase;
-    let pc = w.pc;
-    if pc < base {
-        return word_in(kernel, 0);
-    }
-    word_in(kernel, ((pc - base) / 4) as usize)
+    word_in(kernel, (w.pc.saturating_sub(w.fixed.codeBase) / 4) as usize)
 }
 
 // A step's bytes from index `at` on.
@@ -104,10 +92,7 @@ pub fn put_head(t: &mut [u8], n: usize)
 pub fn steps_in(s: &[u8]) -> usize
     ensures { result ≡ steps_in s.now }
 {
-    if s.len() < HEAD_SIZE {
-        return 0;
-    }
-    (s.len() - HEAD_SIZE) / LINE_SIZE
+    s.len().saturating_sub(HEAD_SIZE) / LINE_SIZE
 }
 
 // Whether the bytes are a well-formed sheet.
@@ -134,8 +119,7 @@ pub fn compare(own: &[u8], n: usize, sheet: &[u8], m: usize) -> Marks
     requires { (n ≤ step_limit) × (sheet_size n ≤ length own.now) × (sheet_size m ≤ length sheet.now) }
     ensures { result ≡ compare_of 1 (lines_at n own.now head_size) (lines_at m sheet.now head_size) }
 {
-    let mut i = 0;
-    while i < n {
+    for i in 0..n {
         if m <= i {
             return Marks::Short;
         }
@@ -144,9 +128,8 @@ pub fn compare(own: &[u8], n: usize, sheet: &[u8], m: usize) -> Marks
         if !check::same(&own[at..end], &sheet[at..end]) {
             return Marks::Differs((i + 1) as u32);
         }
-        i += 1;
     }
-    if i < m {
+    if n < m {
         return Marks::Long;
     }
     Marks::Full

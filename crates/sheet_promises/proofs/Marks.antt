@@ -9,7 +9,8 @@ use lib.Dec.{eqb, leb}
 use lib.ListN.{length, take, drop, replicate, length-append}
 use lib.Seq.{sets-eq, take_at, length-take-le}
 use borrow.Author.Tests.{eqb-false, ne_eqb, leb-true, le-leb}
-use Rattle.answer.specs.declared.Answer.{Answer}
+use Rattle.std.specs.Prelude.{Result}
+use Rattle.answer.specs.declared.Refusal.{Refusal}
 use Rattle.answer.specs.Rows.{◌⇒◌, first, Iff}
 use Rattle.answer.proofs.Rows.{passed}
 use Rattle.answer.proofs.Numbers.{number_one}
@@ -30,7 +31,8 @@ use Rattle.sheet_lines.specs.Sheet.{head_size, step_limit, sheet_size, sheet_of,
 use Rattle.sheet_lines.specs.Compare.{marks_number, compare_of}
 use Rattle.sheet_lines.proofs.Lines.{Lines, own_lines, lines_few}
 use Rattle.sheet_lines.proofs.Sheets.{sheet_length}
-use Rattle.sheet.specs.Mark.{own_start, own_of, own_end, no_steps, LentRuns, lent_runs, lent_runs_of, Marking, marking, mark_of, Modelling, model_of, sheet_room}
+use Rattle.sheet.specs.declared.Marked.{Marked}
+use Rattle.sheet.specs.Mark.{own_start, own_of, own_end, no_steps, LentRuns, lent_runs, lent_runs_of, unmarked, Marking, marking, mark_of, Modelling, model_of, sheet_room}
 use Rattle.sheet_promises.specs.Marks.{written_of, FullExactly, ModelFull, EmptyRefused, EmptyNever, NoStepsNever, CutNever, Says, MarkSays, MarkAnswers, ModelAnswers, LeftBy, MarkLeaves, ModelLeaves, TargetKept, TargetWritten, mark_seen, model_seen, MarkDetermined, ModelDetermined}
 use Rattle.sheet_promises.proofs.RoundTrip.{sheet_says, lines_long, sheet_back, sheet_formed, sheet_lines}
 use Rattle.sheet_promises.proofs.Compares.{says}
@@ -305,11 +307,13 @@ target_written k l v d t z = model_target k l v d t z
 
 all_mark : ShowsAll mark_seen
 all_mark r t e =
-    ap₂ (λ (a : Answer) (q : Marking). record { result = record { answer = a; marks = q.marks; steps = q.steps }; left = q.left }) (number_one _ _ (ap (λ (q : Marking). q.number) e)) e
+    ap₂ (λ (a : Result Marked Refusal) (q : Marking). record { result = a; left = q.left })
+    (number_one unmarked _ _ (ap (λ (q : Marking). q.number) e) (ap (λ (q : Marking). record { marks = q.marks; steps = q.steps }) e)) e
 
 all_model : ShowsAll model_seen
 all_model r t e =
-    ap₂ (λ (a : Answer) (q : Modelling). record { result = record { answer = a; written = q.written }; target = q.target; left = q.left }) (number_one _ _ (ap (λ (q : Modelling). q.number) e)) e
+    ap₂ (λ (a : Result ℕ Refusal) (q : Modelling). record { result = a; target = q.target; left = q.left })
+    (number_one 0 _ _ (ap (λ (q : Modelling). q.number) e) (ap (λ (q : Modelling). q.written) e)) e
 
 pub mark_determined : MarkDetermined
 mark_determined k v d s = determined_whole mark_seen (λ (l : Launch). mark_of k l v d s) all_mark

@@ -1,5 +1,7 @@
 -- What marking promises. k is the kernel, l the launch, v the vector file, d the data, s the sheet handed in, t a target for the model sheet.
-use Rattle.std.specs.Prelude.{ℕ, suc, ◌<◌, ◌≤◌, ◌≡◌, true, false, List, [], ◌∷◌, ◌++◌, length, take, drop, replicate}
+use Rattle.std.specs.Prelude.{ℕ, suc, ◌<◌, ◌≤◌, ◌≡◌, true, false, List, [], ◌∷◌, ◌++◌, length, take, drop, replicate, Result}
+use Rattle.std.specs.Result.{result_unwrap_or}
+use Rattle.answer.specs.declared.Refusal.{Refusal}
 use Rattle.answer.specs.Answer.{number_of}
 use Rattle.answer.specs.Rows.{Iff}
 use Rattle.lanes.specs.Lanes.{file_words}
@@ -12,8 +14,7 @@ use Rattle.sheet_lines.specs.declared.Marks.{Marks}
 use Rattle.sheet_lines.specs.declared.Marks.TheVariants.{NoMarks, Full, Differs, Short, Long}
 use Rattle.sheet_lines.specs.Sheet.{head_size, step_limit, sheet_of, sheet_ok_of, lines_in}
 use Rattle.sheet.specs.declared.Marked.{Marked}
-use Rattle.sheet.specs.declared.Modelled.{Modelled}
-use Rattle.sheet.specs.Mark.{own_start, own_of, no_steps, LentRuns, lent_runs, Marking, marking, mark_of, Modelling, modelling, model_of, sheet_room}
+use Rattle.sheet.specs.Mark.{own_start, own_of, no_steps, LentRuns, lent_runs, Marking, marking, mark_of, Modelling, modelling, model_of, sheet_room, unmarked}
 use Rattle.sheet_promises.specs.Sheets.{AllBytes}
 
 -- the bytes that the model call wrote
@@ -127,19 +128,19 @@ TargetWritten = (k : List ℕ) (l : Launch) (v d t : List ℕ) → (model_of k l
 -- ---- two results that a contract allows are equal
 
 pub record MarkLeft : Type 0 where
-  pub result : Marked
+  pub result : Result Marked Refusal
   pub left : LentRuns
 
 pub record ModelLeft : Type 0 where
-  pub result : Modelled
+  pub result : Result ℕ Refusal
   pub target : List ℕ
   pub left : LentRuns
 
 abbrev pub mark_seen : MarkLeft → Marking
-mark_seen r = marking (number_of r.result.answer) r.result.marks r.result.steps r.left
+mark_seen r = marking (number_of r.result) (result_unwrap_or r.result unmarked).marks (result_unwrap_or r.result unmarked).steps r.left
 
 abbrev pub model_seen : ModelLeft → Modelling
-model_seen r = modelling (number_of r.result.answer) r.result.written r.target r.left
+model_seen r = modelling (number_of r.result) (result_unwrap_or r.result 0) r.target r.left
 
 abbrev pub MarkDetermined : Type 0
 MarkDetermined = (k v d s : List ℕ) → DeterminedWhole mark_seen (λ (l : Launch). mark_of k l v d s)

@@ -75,10 +75,8 @@ fn put_rows(out: &mut [u8], at: usize, s: &[u8]) -> usize
 {
     let n = sheet_lines::steps_in(s);
     let mut end = at;
-    let mut i = 0;
-    while i < n {
+    for i in 0..n {
         end = put_row(out, end, s, i);
-        i += 1;
     }
     end
 }

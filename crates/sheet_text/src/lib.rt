@@ -8,6 +8,7 @@ ghost use Rattle.text.specs.Puts.{Puts};
 ghost use Rattle.sheet_text.specs.SheetText.{count_text, marks_text, reason_of, refusal_text, verdict_text, mark_line, refusal_line, written_line, unwritten_line};
 ghost use Rattle.sheet_text.specs.Put.{put, room_for, line_room, mark_line_into, refusal_line_into, written_line_into, unwritten_line_into};
 
+use answer::Refusal;
 use sheet_lines::Marks;
 
 // Room for every line beside its name.
@@ -60,28 +61,28 @@ fn put_words(out: &mut [u8], at: usize, number: u32) -> usize
     requires { at + 72 ≤ length out.old }
     ensures { Puts out.old at (reason_of number) out.new result × (result ≤ at + 72) }
 {
-    if number == answer::SIZE {
+    if number == Refusal::Size.number() {
         return text::put_text(
             out,
             at,
             b"a size, a base plus a length or a launch value is out of range",
         );
     }
-    if number == answer::BAD_CARD {
+    if number == Refusal::BadCard.number() {
         return text::put_text(
             out,
             at,
             b"the card is missing, or its total, length or version is wrong",
         );
     }
-    if number == answer::BAD_SHEET {
+    if number == Refusal::BadSheet.number() {
         return text::put_text(
             out,
             at,
             b"the sheet is missing, or its length, version or number of steps is wrong",
         );
     }
-    if number == answer::NO_STEPS {
+    if number == Refusal::NoSteps.number() {
         return text::put_text(out, at, b"the run has no steps");
     }
     at
@@ -101,7 +102,7 @@ fn put_verdict(out: &mut [u8], at: usize, number: u32, marks: Marks, given: u64,
     requires { at + 102 ≤ length out.old }
     ensures { Puts out.old at (verdict_text number marks given own) out.new result × (result ≤ at + 102) }
 {
-    if number == answer::DONE {
+    if number == 0 {
         return put_marks(out, at, marks, given, own);
     }
     put_refusal(out, at, number)

@@ -83,8 +83,13 @@ pub fn join(h: &mut [u32; MOVING], s: &mut [u32; FLAT])
         resume(h, k as u32, q.full, pc);
         return;
     }
-    let mut t = q;
-    t.phaseTwo = true;
-    put_split(s, k, t);
+    put_split(
+        s,
+        k,
+        Split {
+            phaseTwo: true,
+            ..q
+        },
+    );
     resume(h, n as u32, q.elseMask, q.elsePc);
 }

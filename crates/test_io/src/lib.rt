@@ -1,10 +1,10 @@
 // The parts of a stored case read, digests, and the line written for a case. reference/CASES-FORMAT.md says what a case file holds and what a line says.
 #![tactic(auto)]
 
-ghost use Rattle.std.specs.Prelude.{◌≡◌, ◌<◌, length};
-ghost use Rattle.io.specs.Counts.{IsPrefixLen};
+ghost use Rattle.std.specs.Prelude.{◌≤◌, length};
 
 use std::io::Read;
+use std::ops::Range;
 use warp::{Fixed, Launch};
 
 // The words of a saved state, and where the open splits, the PC and the mask stand among them.
@@ -16,114 +16,71 @@ const PC_AT: usize = 220;
 
 const MASK_AT: usize = 221;
 
+// Room for one word or byte more than a kernel and data may have, for the longest vector file of a case, and for what else all tests read.
+pub const KERNEL_ROOM: usize = 16385;
+
+pub const DATA_ROOM: usize = 65537;
+
+pub const VECTOR_ROOM: usize = 8224;
+
+pub const CARD_ROOM: usize = 100;
+
 // Where a digest starts.
 pub const DIGEST: u32 = 2166136261;
 
 // ---- the input: numbers are big-endian, and all that follows its end or a read that fails is 0
 
-fn wide(x: u8) -> u32
-    ensures { result < 256 }
-{
-    x as u32
-}
-
-pub fn next_byte(file: &mut impl Read) -> u32 {
+pub fn next_byte(file: &mut impl Read) -> u8 {
     let mut b = [0u8; 1];
     let _ = file.read_exact(&mut b);
-    wide(b[0])
+    b[0]
 }
 
 pub fn next_word(file: &mut impl Read) -> u32 {
     let mut b = [0u8; 4];
     let _ = file.read_exact(&mut b);
-    wide(b[3]) + wide(b[2]) * 256 + wide(b[1]) * 65536 + wide(b[0]) * 16777216
+    u32::from_be_bytes(b)
 }
 
-// ---- runs of words and bytes: a buffer's start, and how long it is
+// ---- runs of words and bytes
 
-// Room for one word or byte more than a kernel and data may have, and for the longest vector file of a case.
-pub fn kernel_room() -> [u32; 16385]
-    ensures { 16385 ≡ length result }
+// The first n words or bytes of a buffer, all where it has no more.
+pub fn start_of<T>(buffer: &mut [T], n: u32) -> &mut [T]
+    ensures { length result.now ≤ length buffer.old }
 {
-    [0; 16385]
+    let n = buffer.len().min(n as usize);
+    &mut buffer[..n]
 }
 
-pub fn data_room() -> [u8; 65537]
-    ensures { 65537 ≡ length result }
-{
-    [0; 65537]
-}
-
-pub fn vector_room() -> [u32; 8224]
-    ensures { 8224 ≡ length result }
-{
-    [0; 8224]
-}
-
-pub fn words_in(buffer: &[u32], n: u32) -> usize
-    ensures { IsPrefixLen result buffer.now }
-{
-    let most = buffer.len();
-    if (n as usize) < most {
-        n as usize
-    } else {
-        most
+fn put<T: Copy>(to: &mut [T], i: u32, x: T) {
+    if let Some(place) = to.get_mut(i as usize) {
+        *place = x;
     }
 }
 
-pub fn bytes_in(buffer: &[u8], n: u32) -> usize
-    ensures { IsPrefixLen result buffer.now }
+// What `next` makes of each place of a run. What is past the buffer's end is made and dropped.
+fn put_run<T: Copy, F: FnMut(u32) -> T>(to: &mut [T], run: Range<u32>, mut next: F)
+    requires { F.IsAlwaysCallable next }
 {
-    io::count(n as isize, buffer)
-}
-
-fn put_word(to: &mut [u32], i: usize, w: u32) {
-    if i < to.len() {
-        to[i] = w;
+    for i in run {
+        put(to, i, next(i));
     }
 }
 
-fn put_byte(to: &mut [u8], i: usize, b: u32) {
-    if i < to.len() {
-        to[i] = (b % 256) as u8;
+// Words that a state or a group names by the index that `index` reads; the others stay.
+fn put_named<R: Read, F: Fn(&mut R) -> u32>(file: &mut R, to: &mut [u32], index: F)
+    requires { F.IsAlwaysCallable index }
+{
+    for _ in 0..next_word(file) {
+        let i = index(file);
+        put(to, i, next_word(file));
     }
 }
 
-// The index of a word that a state names is a byte, that of a group's word is a word.
-fn next_index(group: bool, file: &mut impl Read) -> u32 {
-    if group {
-        next_word(file)
-    } else {
-        next_byte(file)
-    }
-}
-
-// Words that a state or a group names by their index; the others stay.
-fn read_entries(group: bool, file: &mut impl Read, to: &mut [u32], n: u32) {
-    let mut i: u32 = 0;
-    while i < n {
-        let at = next_index(group, file);
-        put_word(to, at as usize, next_word(file));
-        i += 1;
-    }
-}
-
-// ---- stored and generated words and bytes
-
-// What words are: the input's next ones, one word again and again, or a vector file's by its base and mask.
-#[derive(Clone, Copy)]
-enum Words {
-    Stored,
-    Same(u32),
-    Vector(u32, u32),
-}
-
-fn low(x: u64) -> u32 {
-    (x % 4294967296) as u32
-}
+// ---- generated words and bytes
 
 fn next_random(x: u32) -> u32 {
-    low(x as u64 * 1664525 + 1013904223)
+    x.wrapping_mul(1664525).wrapping_add(1013904223)
 }
 
 fn edge(i: u32) -> u32 {
@@ -139,111 +96,80 @@ fn edge(i: u32) -> u32 {
     }
 }
 
+// A word of a vector file by its register, a random number, and the file's base and mask.
 fn vector_word(register: u32, x: u32, base: u32, mask: u32) -> u32 {
     match register % 4 {
         0 => x,
         1 => x / 268435456,
-        2 => std::num::wrapping_add_u32(base, x / 256 & mask),
+        2 => base.wrapping_add(x / 256 & mask),
         _ => edge(x / 536870912),
     }
 }
 
-fn word_from(source: Words, file: &mut impl Read, i: u32, x: u32) -> u32 {
-    match source {
-        Words::Stored => next_word(file),
-        Words::Same(w) => w,
-        Words::Vector(base, mask) => vector_word(i / 32, x, base, mask),
-    }
-}
+// ---- the parts of a case, each read into its buffer; the answer is the buffer's start that holds it
 
-fn byte_from(stored: bool, file: &mut impl Read, x: u32) -> u32 {
-    if stored {
-        next_byte(file)
-    } else {
-        x / 16777216
-    }
-}
-
-// The words, and below the bytes, with index `from` to `end` - 1.
-fn put_words(source: Words, file: &mut impl Read, seed: u32, to: &mut [u32], from: u32, end: u32) {
-    let mut x = seed;
-    let mut i = from;
-    while i < end {
-        x = next_random(x);
-        put_word(to, i as usize, word_from(source, file, i, x));
-        i += 1;
-    }
-}
-
-fn put_bytes(stored: bool, file: &mut impl Read, seed: u32, to: &mut [u8], from: u32, end: u32) {
-    let mut x = seed;
-    let mut i = from;
-    while i < end {
-        x = next_random(x);
-        put_byte(to, i as usize, byte_from(stored, file, x));
-        i += 1;
-    }
-}
-
-// ---- the parts of a case, each at the start of its buffer; its length is the answer
-
-pub fn read_card(file: &mut impl Read, card: &mut [u8]) -> usize
-    ensures { IsPrefixLen result card.new }
+pub fn read_card<'b>(file: &mut impl Read, card: &'b mut [u8]) -> &'b mut [u8]
+    ensures { length result.now ≤ length card.old }
 {
     let n = next_word(file);
-    put_bytes(true, file, 0, card, 0, n);
-    bytes_in(card, n)
+    put_run(card, 0..n, |_| next_byte(file));
+    start_of(card, n)
 }
 
-pub fn read_kernel(file: &mut impl Read, kernel: &mut [u32]) -> usize
-    ensures { IsPrefixLen result kernel.new }
+pub fn read_kernel<'b>(file: &mut impl Read, kernel: &'b mut [u32]) -> &'b mut [u32]
+    ensures { length result.now ≤ length kernel.old }
 {
     let n = next_word(file);
     let named = next_word(file);
-    put_words(Words::Stored, file, 0, kernel, 0, named);
-    let rest = Words::Same(next_word(file));
-    put_words(rest, file, 0, kernel, named, n);
-    words_in(kernel, n)
+    put_run(kernel, 0..named, |_| next_word(file));
+    let rest = next_word(file);
+    put_run(kernel, named..n, |_| rest);
+    start_of(kernel, n)
 }
 
-pub fn read_data(file: &mut impl Read, bytes: &mut [u8]) -> usize
-    ensures { IsPrefixLen result bytes.new }
+pub fn read_data<'b>(file: &mut impl Read, bytes: &'b mut [u8]) -> &'b mut [u8]
+    ensures { length result.now ≤ length bytes.old }
 {
     let n = next_word(file);
     let named = next_word(file);
-    put_bytes(true, file, 0, bytes, 0, named);
-    let seed = next_word(file);
-    put_bytes(false, file, seed, bytes, named, n);
-    bytes_in(bytes, n)
+    put_run(bytes, 0..named, |_| next_byte(file));
+    let mut x = next_word(file);
+    put_run(bytes, named..n, |_| {
+        x = next_random(x);
+        (x / 16777216) as u8
+    });
+    start_of(bytes, n)
 }
 
-pub fn read_vector(file: &mut impl Read, vector: &mut [u32]) -> usize
-    ensures { IsPrefixLen result vector.new }
+pub fn read_vector<'b>(file: &mut impl Read, vector: &'b mut [u32]) -> &'b mut [u32]
+    ensures { length result.now ≤ length vector.old }
 {
     let n = next_word(file);
-    let seed = next_word(file);
+    let mut x = next_word(file);
     let base = next_word(file);
     let mask = next_word(file);
-    put_words(Words::Vector(base, mask), file, seed, vector, 0, n);
-    words_in(vector, n)
+    put_run(vector, 0..n, |i| {
+        x = next_random(x);
+        vector_word(i / 32, x, base, mask)
+    });
+    start_of(vector, n)
 }
 
-pub fn read_state(file: &mut impl Read, state: &mut [u32]) -> usize
-    ensures { IsPrefixLen result state.new }
+// The index of a word that a state names is a byte, that of a group's word is a word.
+pub fn read_state<'b>(file: &mut impl Read, state: &'b mut [u32]) -> &'b mut [u32]
+    ensures { length result.now ≤ length state.old }
 {
     let n = next_word(file);
-    let named = next_word(file);
-    read_entries(false, file, state, named);
-    words_in(state, n)
+    put_named(file, state, |file| u32::from(next_byte(file)));
+    start_of(state, n)
 }
 
-pub fn read_group(file: &mut impl Read, state: &mut [u32]) -> usize
-    ensures { IsPrefixLen result state.new }
+pub fn read_group<'b>(file: &mut impl Read, state: &'b mut [u32]) -> &'b mut [u32]
+    ensures { length result.now ≤ length state.old }
 {
     let n = next_word(file);
-    let named = next_word(file);
-    read_entries(true, file, state, named);
-    words_in(state, n)
+    put_named(file, state, |file| next_word(file));
+    start_of(state, n)
 }
 
 pub fn read_launch(file: &mut impl Read) -> Launch {
@@ -274,39 +200,16 @@ pub fn read_launch(file: &mut impl Read) -> Launch {
 
 // ---- digests
 
-fn multiplied(h: u32) -> u32 {
-    low(h as u64 * 16777619)
-}
-
-fn mixed(h: u32, byte: u32) -> u32 {
-    multiplied(h ^ byte)
-}
-
-fn mixed_word(h: u32, w: u32) -> u32 {
-    let a = mixed(h, w % 256);
-    let b = mixed(a, w / 256 % 256);
-    let c = mixed(b, w / 65536 % 256);
-    mixed(c, w / 16777216)
+pub fn mixed_bytes(h: u32, bytes: &[u8]) -> u32 {
+    bytes
+        .iter()
+        .fold(h, |sum, b| (sum ^ u32::from(*b)).wrapping_mul(16777619))
 }
 
 pub fn mixed_words(h: u32, words: &[u32]) -> u32 {
-    let mut sum = h;
-    let mut i = 0;
-    while i < words.len() {
-        sum = mixed_word(sum, words[i]);
-        i += 1;
-    }
-    sum
-}
-
-pub fn mixed_bytes(h: u32, bytes: &[u8]) -> u32 {
-    let mut sum = h;
-    let mut i = 0;
-    while i < bytes.len() {
-        sum = mixed(sum, wide(bytes[i]));
-        i += 1;
-    }
-    sum
+    words
+        .iter()
+        .fold(h, |sum, w| mixed_bytes(sum, &w.to_le_bytes()))
 }
 
 // What a run leaves in vector file and data, the end of most digests.
@@ -314,69 +217,50 @@ pub fn mixed_lent(h: u32, vector: &[u32], bytes: &[u8]) -> u32 {
     mixed_bytes(mixed_words(h, vector), bytes)
 }
 
-// ---- a line; what a write that fails should have written is lost
+// ---- a call's words and a case's line
 
-pub fn put_decimal(rt: &impl Print, n: u32) {
-    let _ = print!(rt; "{n} ");
+// The words of a call's answer, all 0 if it has not just N.
+pub fn words_of<const N: usize>(words: &[u32]) -> [u32; N] {
+    words.try_into().unwrap_or([0; N])
 }
 
-fn put_hex(rt: &impl Print, n: u32) {
-    let _ = print!(rt; "{n:08x} ");
+// The line of a warp's case.
+#[derive(Clone, Copy, Default)]
+pub struct Line {
+    pub number: u32,
+    pub code: u32,
+    pub steps: u32,
+    pub pc: u32,
+    pub mask: u32,
+    pub splits: u32,
+    pub last: u32,
 }
 
-// A line's last field, which ends it.
-pub fn put_last(rt: &impl Print, n: u32) {
-    let _ = println!(rt; "{n:08x}");
-}
+impl Line {
+    // With what a saved state says; as it is where that is no saved state.
+    pub fn with_state(self, state: &[u32]) -> Line {
+        if state.len() != STATE_WORDS {
+            return self;
+        }
+        Line {
+            pc: state[PC_AT],
+            mask: state[MASK_AT],
+            splits: state[OPEN_AT],
+            ..self
+        }
+    }
 
-pub fn put_line(
-    rt: &impl Print,
-    number: u32,
-    code: u32,
-    steps: u32,
-    pc: u32,
-    mask: u32,
-    splits: u32,
-    last: u32,
-) {
-    put_decimal(rt, number);
-    put_decimal(rt, code);
-    put_decimal(rt, steps);
-    put_hex(rt, pc);
-    put_hex(rt, mask);
-    put_decimal(rt, splits);
-    put_last(rt, last);
-}
-
-pub fn put_state_line(
-    rt: &impl Print,
-    number: u32,
-    code: u32,
-    steps: u32,
-    state: &[u32],
-    last: u32,
-) {
-    if state.len() == STATE_WORDS {
-        put_line(
-            rt,
+    // What a write that fails should have written is lost.
+    pub fn print(self, rt: &impl Print) {
+        let Line {
             number,
             code,
             steps,
-            state[PC_AT],
-            state[MASK_AT],
-            state[OPEN_AT],
+            pc,
+            mask,
+            splits,
             last,
-        );
-    } else {
-        put_line(rt, number, code, steps, 0, 0, 0, last);
-    }
-}
-
-// A word of a call's answer, 0 if it has not just `n` words.
-pub fn word_of(words: &[u32], n: usize, i: usize) -> u32 {
-    if words.len() == n && i < n {
-        words[i]
-    } else {
-        0
+        } = self;
+        let _ = println!(rt; "{number} {code} {steps} {pc:08x} {mask:08x} {splits} {last:08x}");
     }
 }

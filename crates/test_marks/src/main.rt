@@ -3,9 +3,10 @@
 
 use std::fs;
 use std::io::Read;
+use test_io::{CARD_ROOM, DATA_ROOM, DIGEST, KERNEL_ROOM, VECTOR_ROOM};
 
 // The kind of a case that marks a sheet; the others write one.
-const MARK: u32 = 8;
+const MARK: u8 = 8;
 
 // The words and bytes of a result, a written and a target before the call.
 const WORD_BEFORE: u32 = 2779096485;
@@ -15,92 +16,58 @@ const BYTE_BEFORE: u8 = 165;
 // The longest target of a case.
 const TARGET_ROOM: usize = 53293;
 
-fn mark_lent(
-    rt: &impl Print,
-    number: u32,
-    card: &[u8],
-    kernel: &[u32],
-    vector: &mut [u32],
-    bytes: &mut [u8],
-    sheet: &[u8],
-    res: &mut [u32],
-) {
-    let code = capi_sheet::bench_mark(card, kernel, vector, bytes, sheet, res);
-    let digest = test_io::mixed_words(test_io::DIGEST, res);
-    test_io::put_decimal(rt, number);
-    test_io::put_decimal(rt, code);
-    test_io::put_decimal(rt, test_io::word_of(res, 2, 0));
-    test_io::put_decimal(rt, test_io::word_of(res, 2, 1));
-    test_io::put_last(rt, test_io::mixed_lent(digest, vector, bytes));
+// What both kinds of call take.
+#[derive(Drop)]
+struct Lent<'a> {
+    card: &'a [u8],
+    kernel: &'a [u32],
+    vector: &'a mut [u32],
+    bytes: &'a mut [u8],
 }
 
-fn mark_case(
-    rt: &impl Print,
-    file: &mut impl Read,
-    number: u32,
-    card: &[u8],
-    kernel: &[u32],
-    vector: &mut [u32],
-    bytes: &mut [u8],
-) {
-    let mut sheet = test_io::data_room();
+impl Lent<'_> {
+    fn mark(&mut self, sheet: &[u8], res: &mut [u32]) -> u32 {
+        capi_sheet::bench_mark(self.card, self.kernel, self.vector, self.bytes, sheet, res)
+    }
+
+    fn write(&mut self, target: &mut [u8], written: &mut [u32]) -> u32 {
+        capi_sheet::bench_sheet(
+            self.card,
+            self.kernel,
+            self.vector,
+            self.bytes,
+            target,
+            written,
+        )
+    }
+
+    fn digest(&self, of_the_rest: u32) -> u32 {
+        test_io::mixed_lent(of_the_rest, self.vector, self.bytes)
+    }
+}
+
+fn mark_case(rt: &impl Print, file: &mut impl Read, number: u32, lent: &mut Lent<'_>) {
+    let mut sheet = [0u8; DATA_ROOM];
     // A sheet is stored as a card is.
-    let s = test_io::read_card(file, &mut sheet);
+    let sheet = test_io::read_card(file, &mut sheet);
     let mut result = [WORD_BEFORE; 4];
-    let r = test_io::words_in(&result, test_io::next_word(file));
-    mark_lent(
-        rt,
-        number,
-        card,
-        kernel,
-        vector,
-        bytes,
-        &sheet[..s],
-        &mut result[..r],
-    );
+    let result = test_io::start_of(&mut result, test_io::next_word(file));
+    let code = lent.mark(sheet, result);
+    let [first, second] = test_io::words_of::<2>(result);
+    let digest = lent.digest(test_io::mixed_words(DIGEST, result));
+    let _ = println!(rt; "{number} {code} {first} {second} {digest:08x}");
 }
 
-fn write_lent(
-    rt: &impl Print,
-    number: u32,
-    card: &[u8],
-    kernel: &[u32],
-    vector: &mut [u32],
-    bytes: &mut [u8],
-    target: &mut [u8],
-    written: &mut [u32],
-) {
-    let code = capi_sheet::bench_sheet(card, kernel, vector, bytes, target, written);
-    let digest = test_io::mixed_bytes(test_io::mixed_words(test_io::DIGEST, written), target);
-    test_io::put_decimal(rt, number);
-    test_io::put_decimal(rt, code);
-    test_io::put_decimal(rt, test_io::word_of(written, 1, 0));
-    test_io::put_last(rt, test_io::mixed_lent(digest, vector, bytes));
-}
-
-fn write_case(
-    rt: &impl Print,
-    file: &mut impl Read,
-    number: u32,
-    card: &[u8],
-    kernel: &[u32],
-    vector: &mut [u32],
-    bytes: &mut [u8],
-) {
+fn write_case(rt: &impl Print, file: &mut impl Read, number: u32, lent: &mut Lent<'_>) {
     let mut target = [BYTE_BEFORE; TARGET_ROOM];
-    let t = test_io::bytes_in(&target, test_io::next_word(file));
+    let target = test_io::start_of(&mut target, test_io::next_word(file));
     let mut written = [WORD_BEFORE; 3];
-    let w = test_io::words_in(&written, test_io::next_word(file));
-    write_lent(
-        rt,
-        number,
-        card,
-        kernel,
-        vector,
-        bytes,
-        &mut target[..t],
-        &mut written[..w],
-    );
+    let written = test_io::start_of(&mut written, test_io::next_word(file));
+    let code = lent.write(target, written);
+    let [size] = test_io::words_of::<1>(written);
+    let of_both = test_io::mixed_bytes(test_io::mixed_words(DIGEST, written), target);
+    let digest = lent.digest(of_both);
+    let _ = println!(rt; "{number} {code} {size} {digest:08x}");
 }
 
 // What both kinds begin with is read here, the rest by the kind's own function.
@@ -108,34 +75,20 @@ fn next_case(rt: &impl Print, file: &mut impl Read, number: u32) {
     let kind = test_io::next_byte(file);
     // The body's length, which its kind's parts give again.
     test_io::next_word(file);
-    let mut card = [0u8; 100];
-    let mut kernel = test_io::kernel_room();
-    let mut bytes = test_io::data_room();
-    let mut vector = test_io::vector_room();
-    let c = test_io::read_card(file, &mut card);
-    let k = test_io::read_kernel(file, &mut kernel);
-    let b = test_io::read_data(file, &mut bytes);
-    let v = test_io::read_vector(file, &mut vector);
+    let mut card = [0u8; CARD_ROOM];
+    let mut kernel = [0u32; KERNEL_ROOM];
+    let mut bytes = [0u8; DATA_ROOM];
+    let mut vector = [0u32; VECTOR_ROOM];
+    let mut lent = Lent {
+        card: test_io::read_card(file, &mut card),
+        kernel: test_io::read_kernel(file, &mut kernel),
+        bytes: test_io::read_data(file, &mut bytes),
+        vector: test_io::read_vector(file, &mut vector),
+    };
     if kind == MARK {
-        mark_case(
-            rt,
-            file,
-            number,
-            &card[..c],
-            &kernel[..k],
-            &mut vector[..v],
-            &mut bytes[..b],
-        );
+        mark_case(rt, file, number, &mut lent);
     } else {
-        write_case(
-            rt,
-            file,
-            number,
-            &card[..c],
-            &kernel[..k],
-            &mut vector[..v],
-            &mut bytes[..b],
-        );
+        write_case(rt, file, number, &mut lent);
     }
 }
 
@@ -143,11 +96,8 @@ fn next_case(rt: &impl Print, file: &mut impl Read, number: u32) {
 fn run_cases(rt: &impl Print, file: &mut impl Read) {
     // The file's letters.
     test_io::next_word(file);
-    let count = test_io::next_word(file);
-    let mut i: u32 = 0;
-    while i < count {
+    for i in 0..test_io::next_word(file) {
         next_case(rt, file, i);
-        i += 1;
     }
 }
 

@@ -4,12 +4,13 @@ use mathlib.Core.Bool.{Bool, true, false, cond}
 use mathlib.Core.List.{List, [], ◌∷◌, ◌++◌, append_assoc}
 use Prim.Native.Nat.{ℕ, zero, suc, ◌+◌, ◌-◌, ◌/◌, ◌%◌, ◌^◌, ◌≤◌, ◌<◌}
 use native.Mathlib.Nat.{add-zero, add-suc, suc-add, pow-suc, mod-eq_of_lt, div-lt_iff_lt-mul}
-use native.Mathlib.Numerals.{add-one, sub-one}
+use native.Mathlib.Numerals.{sub-one}
 use native.Mathlib.Omega.{arith}
 use lib.Dec.{ltb}
 use borrow.Author.Tests.{lt-ltb, le-ltb}
-use lib.ListN.{length, take, set, get_or, replicate, length-append, length-replicate, replicate-append-replicate}
-use lib.Seq.{sets, take-suc, length-take-le}
+use lib.ListN.{length, take, set, replicate, length-append, length-replicate}
+use lib.Seq.{sets, sets-eq, drop-drop}
+use borrow.Rule.Slice.PartMut.{put_mid}
 use Rattle.text.specs.Puts.{Puts}
 use Rattle.text.specs.Text.{digit_of, hex_digits, decimal_digits, hex_of, decimal_of, right_of}
 
@@ -33,11 +34,11 @@ puts_then {o} {p} {q} {a} {b} {i} {j} {k} s t =
 pub puts_as : {o p a b : List ℕ} {i j : ℕ} → b ≡ a → Puts o i a p j → Puts o i b p j
 puts_as e s = rw e s
 
--- one byte more of a text
-pub text_more : (o w : List ℕ) (i k : ℕ) → k < length w → set (sets o i (take k w)) (i + k) (get_or w k 0) ≡ sets o i (take (k + 1) w)
-text_more o w i k h =
-    rw (add-one, take-suc w k 0)
-    (rw (length-take-le k w (omega arith)) at (sets_append (take k w) o i (get_or w k 0 ∷ [])))
+-- a write to the part of o from i on, k long, that leaves w there
+pub put_part : (o p w : List ℕ) (i k : ℕ) → p ≡ w → k ≡ length w → i + k ≤ length o → put_mid i k o p ≡ sets o i w
+put_part o p w i k e f h =
+    rw (e, f) (ap (λ (r : List ℕ). take i o ++ (w ++ r)) (drop-drop (length w) i o)
+    ∙ sym (append_assoc (take i o) w _) ∙ sym (sets-eq w o i (omega arith)))
 
 -- ---- hexadecimal
 
@@ -81,10 +82,6 @@ unfolding decimal_of
 decimal_size n = decimal_length 19 n
 
 -- ---- blanks in front
-
-pub blanks_more : (k : ℕ) → (k ≡ 0 → ⊥) → replicate {A = ℕ} k 32 ≡ replicate (k - 1) 32 ++ (32 ∷ [])
-blanks_more zero h = absurd (h refl)
-blanks_more (suc k) h = rw sub-one (ap (λ (n : ℕ). replicate {A = ℕ} n 32) (sym (add-one k)) ∙ sym (replicate-append-replicate {A = ℕ} k 1 32))
 
 pub right_few : (w n : ℕ) → n < 10 → right_of w n ≡ replicate (w - 1) 32 ++ (digit_of n ∷ [])
 unfolding right_of

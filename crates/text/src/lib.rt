@@ -1,4 +1,5 @@
-// Numbers and lines as ASCII bytes: each `put_` puts its own into `out` from index `at` on, and answers the index after them.
+// Numbers and lines as ASCII bytes: each `put_` puts its own into `out` from index `at` on, and answers the index after them. No Display:
+// each clause says the bytes themselves (Puts), which `write!` into a lent slice does not.
 #![tactic(auto)]
 
 ghost use Rattle.std.specs.Prelude.{◌≡◌, ◌+◌, ◌-◌, ◌<◌, ◌≤◌, [], ◌∷◌, length, replicate};
@@ -9,7 +10,11 @@ fn digit(x: u64) -> u8
     requires { x < 16 }
     ensures { result ≡ digit_of x }
 {
-    if x < 10 { 48 + x as u8 } else { 87 + x as u8 }
+    if x < 10 {
+        b'0' + x as u8
+    } else {
+        b'a' + (x - 10) as u8
+    }
 }
 
 fn put_byte(out: &mut [u8], at: usize, b: u8) -> usize
@@ -54,17 +59,9 @@ fn put_blanks(out: &mut [u8], at: usize, k: usize) -> usize
     requires { at + k ≤ length out.old }
     ensures { Puts out.old at (replicate k 32) out.new result }
 {
-    if k == 0 {
-        return at;
-    }
-    let last = put_blanks(out, at, k - 1);
-    put_byte(out, last, 32)
-}
-
-fn one_less(n: usize) -> usize
-    ensures { result ≡ n - 1 }
-{
-    if n == 0 { 0 } else { n - 1 }
+    let end = at + k;
+    out[at..end].fill(b' ');
+    end
 }
 
 // In decimal with blanks in front, `width` places wide; a longer number has no blank.
@@ -72,7 +69,7 @@ pub fn put_right(out: &mut [u8], at: usize, width: usize, n: u64) -> usize
     requires { at + length (right_of width n) ≤ length out.old }
     ensures { Puts out.old at (right_of width n) out.new result }
 {
-    let less = one_less(width);
+    let less = width.saturating_sub(1);
     if n < 10 {
         let one = put_blanks(out, at, less);
         return put_byte(out, one, digit(n));
@@ -85,12 +82,9 @@ pub fn put_text(out: &mut [u8], at: usize, text: &[u8]) -> usize
     requires { at + length text.now ≤ length out.old }
     ensures { Puts out.old at text.now out.new result }
 {
-    let mut i = 0;
-    while i < text.len() {
-        out[at + i] = text[i];
-        i += 1;
-    }
-    at + i
+    let end = at + text.len();
+    out[at..end].copy_from_slice(text);
+    end
 }
 
 pub fn put_decimal_line(out: &mut [u8], at: usize, name: &[u8], n: u64) -> usize
@@ -99,7 +93,7 @@ pub fn put_decimal_line(out: &mut [u8], at: usize, name: &[u8], n: u64) -> usize
 {
     let value = put_text(out, at, name);
     let end = put_decimal(out, value, n);
-    put_byte(out, end, 10)
+    put_byte(out, end, b'\n')
 }
 
 pub fn put_hex_line(out: &mut [u8], at: usize, name: &[u8], n: u32) -> usize
@@ -108,5 +102,5 @@ pub fn put_hex_line(out: &mut [u8], at: usize, name: &[u8], n: u32) -> usize
 {
     let value = put_text(out, at, name);
     let end = put_hex(out, value, n);
-    put_byte(out, end, 10)
+    put_byte(out, end, b'\n')
 }

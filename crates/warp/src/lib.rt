@@ -17,7 +17,7 @@ pub const SPLITS: usize = 31;
 
 // An open split: the lanes of elseMask want elsePc; in phase two they run.
 #[repr(C)]
-#[derive(Clone, Copy)]
+#[derive(Clone, Copy, Default)]
 pub struct Split {
     pub rpc: u32,
     pub full: u32,
@@ -28,7 +28,7 @@ pub struct Split {
 
 // What a launch sets and no step changes.
 #[repr(C)]
-#[derive(Clone, Copy)]
+#[derive(Clone, Copy, Default)]
 pub struct Fixed {
     pub numt: u32,
     pub numw: u32,
@@ -46,7 +46,7 @@ pub struct Fixed {
 }
 
 #[repr(C)]
-#[derive(Clone, Copy)]
+#[derive(Clone, Copy, Default)]
 pub struct Launch {
     pub fixed: Fixed,
     pub entry: u32,
@@ -54,7 +54,7 @@ pub struct Launch {
 
 // depth counts the open splits; the last of them is splits[depth - 1].
 #[repr(C)]
-#[derive(Clone, Copy)]
+#[derive(Clone, Copy, Default)]
 pub struct Warp {
     pub x: [u32; 64],
     pub splits: [Split; 31],
@@ -72,68 +72,26 @@ pub struct Warp {
 pub fn zero_split() -> Split
     ensures { result ≡ zero_split }
 {
-    Split {
-        rpc: 0,
-        full: 0,
-        elseMask: 0,
-        elsePc: 0,
-        phaseTwo: false,
-    }
-}
-
-fn zero_fixed() -> Fixed
-    ensures { result ≡ zero_fixed }
-{
-    Fixed {
-        numt: 0,
-        numw: 0,
-        wid: 0,
-        launchMask: 0,
-        codeBase: 0,
-        dataBase: 0,
-        knl: 0,
-        wgid: 0,
-        lds: 0,
-        pds: 0,
-        gidx: 0,
-        gidy: 0,
-        gidz: 0,
-    }
+    Split::default()
 }
 
 pub fn zero_launch() -> Launch
     ensures { result ≡ zero_launch }
 {
-    let f = zero_fixed();
-    Launch { fixed: f, entry: 0 }
+    Launch::default()
 }
 
 // None is pending.
 pub fn no_prefix() -> Prefix
     ensures { result ≡ no_prefix }
 {
-    Prefix { kind: 0, bits: 0 }
+    Prefix::default()
 }
 
 pub fn zero_warp() -> Warp
     ensures { result ≡ zero_warp }
 {
-    let f = zero_fixed();
-    let s = zero_split();
-    let none = no_prefix();
-    Warp {
-        x: [0; 64],
-        splits: [s; 31],
-        depth: 0,
-        pc: 0,
-        mask: 0,
-        rpc: 0,
-        print: 0,
-        ended: false,
-        waiting: false,
-        prefix: none,
-        fixed: f,
-    }
+    Warp::default()
 }
 
 // 2 to the power n: one more than the greatest mask of n lanes.

@@ -1,8 +1,9 @@
 // The 32-bit word operations that scalar and lane instructions share.
 #![tactic(auto)]
 
-ghost use Rattle.std.specs.Prelude.{◌≡◌, ◌^◌, ◌<◌, ◌≤◌, if◌then◌else◌, nat_lt};
-ghost use Rattle.word.specs.Word.{signed, as_word, less_of, flag_of, add_of, sub_of, sll_of, srl_of, sra_of, mul_of, mulh_of, mulhsu_of, mulhu_of, div_of, divu_of, rem_of, remu_of, apply_of, holds_of, extend_of};
+ghost use Rattle.std.specs.Prelude.{◌≡◌, ◌^◌, ◌<◌, ◌≤◌, nat_lt};
+ghost use Rattle.std.specs.Int.Signed.{shr_z};
+ghost use Rattle.word.specs.Word.{as_word, less_of, flag_of, add_of, sub_of, sll_of, srl_of, sra_of, mul_of, mulh_of, mulhsu_of, mulhu_of, div_of, divu_of, rem_of, remu_of, apply_of, holds_of, extend_of};
 
 // What an instruction does with two words. Slt and Sltu are a lane compare too; the names from Seq on are lane compares.
 #[derive(Clone, Copy)]
@@ -49,93 +50,59 @@ pub enum Cond {
     Geu,
 }
 
-// The signed value of a word. It compiles to nothing.
-fn value(x: u32) -> i32
-    ensures { result ≡ signed x }
-{
-    if x < 0x8000_0000 {
-        x as i32
-    } else {
-        (x - 0x8000_0000) as i32 + (-2147483648)
-    }
-}
-
-// The word of a signed value.
-fn word(z: i32) -> u32
-    ensures { result ≡ as_word z }
-{
-    if z < 0 {
-        (z - (-2147483648)) as u32 + 0x8000_0000
-    } else {
-        z as u32
-    }
-}
-
-fn flag(b: bool) -> u32
-    ensures { result ≡ flag_of b }
-{
-    if b { 1 } else { 0 }
-}
-
-fn choose(b: bool, x: u32, y: u32) -> u32
-    ensures { result ≡ (if b then x else y) }
-{
-    if b { x } else { y }
-}
-
 pub fn add(a: u32, b: u32) -> u32
     ensures { result ≡ add_of a b }
 {
-    std::num::wrapping_add_u32(a, b)
+    a.wrapping_add(b)
 }
 
 pub fn sub(a: u32, b: u32) -> u32
     ensures { result ≡ sub_of a b }
 {
-    std::num::wrapping_sub_u32(a, b)
+    a.wrapping_sub(b)
 }
 
 pub fn sll(a: u32, b: u32) -> u32
     ensures { result ≡ sll_of a b }
 {
-    a << (b % 32)
+    a.wrapping_shl(b)
 }
 
 pub fn srl(a: u32, b: u32) -> u32
     ensures { result ≡ srl_of a b }
 {
-    a >> (b % 32)
+    a.wrapping_shr(b)
 }
 
 pub fn sra(a: u32, b: u32) -> u32
     ensures { result ≡ sra_of a b }
 {
-    word(value(a) >> ((b % 32) as i32))
+    a.cast_signed().wrapping_shr(b).cast_unsigned()
 }
 
 // Whether a is below b as signed values.
 fn less(a: u32, b: u32) -> bool
     ensures { result ≡ less_of a b }
 {
-    value(a) < value(b)
+    a.cast_signed() < b.cast_signed()
 }
 
 pub fn slt(a: u32, b: u32) -> u32
     ensures { result ≡ flag_of (less_of a b) }
 {
-    flag(less(a, b))
+    u32::from(less(a, b))
 }
 
 pub fn sltu(a: u32, b: u32) -> u32
     ensures { result ≡ flag_of (nat_lt a b) }
 {
-    flag(a < b)
+    u32::from(a < b)
 }
 
 pub fn mul(a: u32, b: u32) -> u32
     ensures { result ≡ mul_of a b }
 {
-    ((a as u64) * (b as u64) % 0x1_0000_0000) as u32
+    a.wrapping_mul(b)
 }
 
 pub fn mulhu(a: u32, b: u32) -> u32
@@ -144,47 +111,46 @@ pub fn mulhu(a: u32, b: u32) -> u32
     ((a as u64) * (b as u64) / 0x1_0000_0000) as u32
 }
 
+// The upper word of a signed product.
+fn upper(p: i64) -> u32
+    ensures { result ≡ as_word (shr_z p (2 ^ 32)) }
+{
+    ((p >> 32) as i32).cast_unsigned()
+}
+
 pub fn mulh(a: u32, b: u32) -> u32
     ensures { result ≡ mulh_of a b }
 {
-    word(((value(a) as i64) * (value(b) as i64) >> 32) as i32)
+    upper(a.cast_signed() as i64 * b.cast_signed() as i64)
 }
 
 pub fn mulhsu(a: u32, b: u32) -> u32
     ensures { result ≡ mulhsu_of a b }
 {
-    word(((value(a) as i64) * (b as i64) >> 32) as i32)
+    upper(a.cast_signed() as i64 * b as i64)
 }
 
 pub fn divu(a: u32, b: u32) -> u32
     ensures { result ≡ divu_of a b }
 {
-    if b == 0 {
-        return 0xffff_ffff;
-    }
-    a / b
+    a.checked_div(b).unwrap_or(u32::MAX)
 }
 
 pub fn remu(a: u32, b: u32) -> u32
     ensures { result ≡ remu_of a b }
 {
-    if b == 0 {
-        return a;
-    }
-    a % b
+    a.checked_rem(b).unwrap_or(a)
 }
 
-// By -1 apart, since -2^31 by -1 is no i32.
 pub fn div(a: u32, b: u32) -> u32
     ensures { result ≡ div_of a b }
 {
     if b == 0 {
-        return 0xffff_ffff;
+        return u32::MAX;
     }
-    if b == 0xffff_ffff {
-        return sub(0, a);
-    }
-    word(value(a) / value(b))
+    a.cast_signed()
+        .wrapping_div(b.cast_signed())
+        .cast_unsigned()
 }
 
 pub fn rem(a: u32, b: u32) -> u32
@@ -193,10 +159,9 @@ pub fn rem(a: u32, b: u32) -> u32
     if b == 0 {
         return a;
     }
-    if b == 0xffff_ffff {
-        return 0;
-    }
-    word(value(a) % value(b))
+    a.cast_signed()
+        .wrapping_rem(b.cast_signed())
+        .cast_unsigned()
 }
 
 // An operation by its variant, for the loops over lanes; a scalar word calls the operation's own function.
@@ -223,14 +188,14 @@ pub fn apply(op: Op, a: u32, b: u32) -> u32
         Op::Divu => divu(a, b),
         Op::Rem => rem(a, b),
         Op::Remu => remu(a, b),
-        Op::Min => choose(less(a, b), a, b),
-        Op::Minu => choose(a < b, a, b),
-        Op::Max => choose(less(a, b), b, a),
-        Op::Maxu => choose(a < b, b, a),
-        Op::Seq => flag(a == b),
-        Op::Sne => flag(a != b),
-        Op::Sle => flag(!less(b, a)),
-        Op::Sleu => flag(a <= b),
+        Op::Min => if less(a, b) { a } else { b },
+        Op::Minu => a.min(b),
+        Op::Max => if less(a, b) { b } else { a },
+        Op::Maxu => a.max(b),
+        Op::Seq => u32::from(a == b),
+        Op::Sne => u32::from(a != b),
+        Op::Sle => u32::from(!less(b, a)),
+        Op::Sleu => u32::from(a <= b),
         Op::Sgt => slt(b, a),
         Op::Sgtu => sltu(b, a),
     }
@@ -258,6 +223,6 @@ pub fn extend(n: u32, x: u32) -> u32
     if x < half {
         x
     } else {
-        x + (0xffff_ffff - (half - 1 + half))
+        x.wrapping_sub(2 * half)
     }
 }

@@ -1,15 +1,9 @@
-use mathlib.Core.Path.{ap, ◌∙◌}
-use mathlib.Core.List.{List}
-use Prim.Native.Nat.{ℕ, ◌+◌, ◌/◌}
-use native.Mathlib.Numerals.{add-two}
-use lib.Seq.{sets}
+use mathlib.Core.Path.{◌∙◌}
+use native.Mathlib.Omega.{arith}
 use Rattle.memory.specs.Bytes.{le_bytes}
+use Rattle.access.proofs.Laws.{put_part, bytes_of_word}
 use Rattle.access.proofs.put_word.Goals as goal
 
 pub returns : goal.returns
 unfolding le_bytes
-returns c =
-    let g = c.args in
-    c.put_half-2.ensures
-    ∙ ap (λ (u : List ℕ). sets u (g.i + 2) (le_bytes 2 (g.x / 256 / 256))) c.put_half.ensures
-    ∙ ap (λ (j : ℕ). sets (sets g.d.now g.i (le_bytes 2 g.x)) j (le_bytes 2 (g.x / 256 / 256))) (add-two g.i)
+returns c = let s = c.args in put_part s.d.now _ (le_bytes 4 s.x) s.i _ (c.copy_from_slice.ensures.after ∙ c.to_le_bytes.ensures ∙ bytes_of_word s.x) (omega arith) (omega (arith, c.requires))

@@ -36,11 +36,11 @@ neither a b p q = rw (p, q)
 
 pub returns-then-over_mask : goal.returns-then-over_mask
 unfolding decode_call_of
-returns-then-over_mask c = either (absent (decode_of c.args.word)) _ (over c.args.word _ _ c.decode-i.ensures c.over_mask.ensures ∙ c.if-over_mask.true)
+returns-then-over_mask c = c.number.ensures ∙ either (absent (decode_of c.args.word)) _ (over c.args.word _ _ c.decode-i.ensures c.over_mask.ensures ∙ c.if-over_mask.true)
 
 pub returns-in-Refused : goal.returns-in-Refused
 unfolding decode_call_of
-returns-in-Refused c = rw (← c.decode-i.ensures, c.in-Refused.is)
+returns-in-Refused c = c.number-in-Refused.ensures ∙ rw (← c.decode-i.ensures, c.in-Refused.is)
 
 pub returns-in_default : goal.returns-in_default
 unfolding decode_call_of

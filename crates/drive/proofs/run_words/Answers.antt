@@ -1,4 +1,4 @@
-use mathlib.Core.Path.{◌≡◌, sym, ◌∙◌}
+use mathlib.Core.Path.{◌≡◌, refl, sym, ◌∙◌}
 use mathlib.Core.Bool.{true}
 use Rattle.memory.specs.Memories.{contents}
 use Rattle.layout.specs.Words.{fixed_in}
@@ -10,25 +10,25 @@ pub returns-then-not-runs_ok : goal.returns-then-not-runs_ok
 returns-then-not-runs_ok c =
     let f = c.fixed_in.ensures in
     let l = c.requires in
-    words_size _ _ _ l.0 l.1 (rw f at (sym c.runs_ok.ensures ∙ c.if-not-runs_ok.true))
+    (refl, words_size _ _ _ l.0 l.1 (rw f at (sym c.runs_ok.ensures ∙ c.if-not-runs_ok.true)))
 
 pub returns-then-not-words_ok : goal.returns-then-not-words_ok
 returns-then-not-words_ok c =
     let a = c.args in
-    let sized : runs_ok_of (fixed_in a.g.now) a.kernel.now a.vector.now (contents a.bytes.now a.local.now) ≡ true = rw c.fixed_in.ensures at (sym c.runs_ok.ensures ∙ c.if-not-runs_ok.false) in
+    let sized : runs_ok_of (fixed_in a.w.now.fixed) a.kernel.now a.vector.now (contents a.bytes.now a.local.now) ≡ true = rw c.fixed_in.ensures at (sym c.runs_ok.ensures ∙ c.if-not-runs_ok.false) in
     let l = c.requires in
-    words_malformed _ _ _ l.0 l.1 sized (sym c.words_ok.ensures ∙ c.if-not-words_ok.true)
+    (refl, words_malformed _ _ _ l.0 l.1 sized (sym c.words_ok.ensures ∙ c.if-not-words_ok.true))
 
-pub drive-end-requires : goal.drive-end-requires
-drive-end-requires c =
+pub drive-requires : goal.drive-requires
+drive-requires c =
     let a = c.args in
-    let sized : runs_ok_of (fixed_in a.g.now) a.kernel.now a.vector.now (contents a.bytes.now a.local.now) ≡ true = rw c.fixed_in.ensures at (sym c.runs_ok.ensures ∙ c.if-not-runs_ok.false) in
+    let sized : runs_ok_of (fixed_in a.w.now.fixed) a.kernel.now a.vector.now (contents a.bytes.now a.local.now) ≡ true = rw c.fixed_in.ensures at (sym c.runs_ok.ensures ∙ c.if-not-runs_ok.false) in
     let l = c.requires in
     words_started _ 0 _ l.0 l.1 sized (sym c.words_ok.ensures ∙ c.if-not-words_ok.false)
 
 pub returns : goal.returns
 returns c =
     let a = c.args in
-    let sized : runs_ok_of (fixed_in a.g.now) a.kernel.now a.vector.now (contents a.bytes.now a.local.now) ≡ true = rw c.fixed_in.ensures at (sym c.runs_ok.ensures ∙ c.if-not-runs_ok.false) in
+    let sized : runs_ok_of (fixed_in a.w.now.fixed) a.kernel.now a.vector.now (contents a.bytes.now a.local.now) ≡ true = rw c.fixed_in.ensures at (sym c.runs_ok.ensures ∙ c.if-not-runs_ok.false) in
     let l = c.requires in
-    words_run _ _ _ l.0 l.1 sized (sym c.words_ok.ensures ∙ c.if-not-words_ok.false) _ _ _ c.drive-end.ensures
+    (c.drive.ensures.0, words_run _ _ _ l.0 l.1 sized (sym c.words_ok.ensures ∙ c.if-not-words_ok.false) _ _ _ c.drive.ensures.1)

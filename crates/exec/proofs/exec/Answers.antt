@@ -37,7 +37,7 @@ lane_word-requires c = let a = c.args in let f = fields_of a.w in (c.requires, r
 
 pub returns-in-1 : goal.returns-in-1
 unfolding row_of effect_of refusals_of warp_of
-returns-in-1 c = let a = c.args in let f = fields_of a.w in told (lui_is a.kind a.w c.in-1.is refl refl) (given (I.Lui (xd_in a.w) (imm_u f)) (xd_in a.w) _ _ a.g.now a.h.now a.x.now a.s.now a.v.now (contents a.d.now a.l.now) _ _ c.gives.ensures.0 (c.gives.ensures.1 a.g.now a.s.now c.requires.lent.room) refl (ap (λ (z : ℕ). goes (puts_in (xd_in a.w) (z * 4096) (warp_of a.g.now a.h.now a.x.now a.s.now))) (sym c.imm_u.ensures.0)))
+returns-in-1 c = let a = c.args in let f = fields_of a.w in told (lui_is a.kind a.w c.in-1.is refl refl) (given (I.Lui (xd_in a.w) (imm_u f)) (xd_in a.w) _ _ a.g.now a.h.now a.x.now a.s.now a.v.now (contents a.d.now a.l.now) _ _ refl (c.gives.ensures a.g.now a.s.now c.requires.lent.room) refl (ap (λ (z : ℕ). goes (puts_in (xd_in a.w) (z * 4096) (warp_of a.g.now a.h.now a.x.now a.s.now))) (sym c.imm_u.ensures.0)))
 
 pub returns-in-2 : goal.returns-in-2
 unfolding row_of effect_of refusals_of warp_of

@@ -2,7 +2,7 @@ use Rattle.exec.proofs.Laws.{or_none, or_some, fetch_stopped, fetch_off, fetch_w
 use Rattle.exec.proofs.fetch.Goals as goal
 
 pub returns-then-h-ne0 : goal.returns-then-h-ne0
-returns-then-h-ne0 c = let a = c.args in λ x s. fetch_stopped a.k.now a.g.now a.h.now x s _ c.stop_number.ensures (or_some _ _ c.if-h-ne0.true)
+returns-then-h-ne0 c = let a = c.args in λ x s. fetch_stopped a.k.now a.g.now a.h.now x s _ c.stop_reason.ensures (or_some _ _ c.if-h-ne0.true)
 
 pub returns-then-k-at : goal.returns-then-k-at
 returns-then-k-at c =

@@ -10,7 +10,11 @@ use Rattle.isa.specs.declared.Space.TheVariants.{Plain, Private}
 use Rattle.layout.proofs.Words.{lent_deep, lent_room}
 use Rattle.definition.specs.Exec.{effect_of}
 use Rattle.definition.specs.Refuse.{refusals_of}
-use mathlib.Core.Path.{refl}
+use mathlib.Core.Path.{◌≡◌, refl}
+use borrow.Author.Rules.{rules}
+use borrow.Author.Tests.{ne_eqb}
+use Rattle.answer.specs.Answer.{refusal_of, number_of}
+use Rattle.answer.proofs.Numbers.{some_number}
 use Rattle.exec.proofs.lane_word.Goals as goal
 
 pub vbranch-requires : goal.vbranch-requires
@@ -65,21 +69,69 @@ pub returns-in-11 : goal.returns-in-11
 unfolding effect_of refusals_of
 returns-in-11 c = let a = c.args in told (setrpc_is a.kind a.w c.in-11.is refl refl refl) (c.setrpc.ensures a.g.now a.s.now a.v.now (contents a.d.now a.l.now) c.requires.0.lent.room)
 
-pub returns-in-12 : goal.returns-in-12
+pub returns-in_err-vload-in-12 : goal.returns-in_err-vload-in-12
 unfolding effect_of refusals_of
-returns-in-12 c = let a = c.args in told (vload_is a.kind a.w c.in-12.is refl refl refl c.imm_i.ensures.0) (lane_load_arm _ Plain _ a.w _ a.g.now a.h.now a.x.now a.s.now a.v.now (contents a.d.now a.l.now) _ c.requires.0.lent.long c.requires.0.lent.room c.on_if.ensures _ c.vload.ensures)
+returns-in_err-vload-in-12 c =
+    let a = c.args in
+    let e : number_of c.from_residual.result ≡ refusal_of c.in_err-vload-in-12.field-0.0 = search rules in
+    rw e
+    (told (vload_is a.kind a.w c.in-12.is refl refl refl c.imm_i.ensures.0)
+    (lane_load_arm _ Plain _ a.w _ a.g.now a.h.now a.x.now a.s.now a.v.now (contents a.d.now a.l.now) _ c.requires.0.lent.long c.requires.0.lent.room (refl, rw (ne_eqb _ 0 (some_number c.in_err-vload-in-12.field-0.0)) refl) _ c.in_err-vload-in-12.ensures))
 
-pub returns-in-13 : goal.returns-in-13
+pub returns-in_ok-vload-in-12 : goal.returns-in_ok-vload-in-12
 unfolding effect_of refusals_of
-returns-in-13 c = let a = c.args in told (vstore_is a.kind a.w c.in-13.is refl refl refl c.imm_s.ensures.0) (lane_store_arm _ Plain _ a.w _ a.g.now a.h.now a.x.now a.s.now a.v.now (contents a.d.now a.l.now) _ c.requires.0.lent.long c.requires.0.lent.room c.on_if-in-13.ensures _ c.vstore.ensures)
+returns-in_ok-vload-in-12 c =
+    let a = c.args in
+    told (vload_is a.kind a.w c.in-12.is refl refl refl c.imm_i.ensures.0)
+    (lane_load_arm _ Plain _ a.w _ a.g.now a.h.now a.x.now a.s.now a.v.now (contents a.d.now a.l.now) _ c.requires.0.lent.long c.requires.0.lent.room (refl, c.next.ensures) _ c.in_ok-vload-in-12.ensures)
 
-pub returns-in-14 : goal.returns-in-14
+pub returns-in_err-vstore-in-13 : goal.returns-in_err-vstore-in-13
 unfolding effect_of refusals_of
-returns-in-14 c = let a = c.args in told (pload_is a.kind a.w c.in-14.is refl refl refl c.private_load_offset.ensures.0) (lane_load_arm _ Private _ a.w _ a.g.now a.h.now a.x.now a.s.now a.v.now (contents a.d.now a.l.now) _ c.requires.0.lent.long c.requires.0.lent.room c.on_if-in-14.ensures _ c.vload-in-14.ensures)
+returns-in_err-vstore-in-13 c =
+    let a = c.args in
+    let e : number_of c.from_residual-in_err-vstore-in-13.result ≡ refusal_of c.in_err-vstore-in-13.field-0.0 = search rules in
+    rw e
+    (told (vstore_is a.kind a.w c.in-13.is refl refl refl c.imm_s.ensures.0)
+    (lane_store_arm _ Plain _ a.w _ a.g.now a.h.now a.x.now a.s.now a.v.now (contents a.d.now a.l.now) _ c.requires.0.lent.long c.requires.0.lent.room (refl, rw (ne_eqb _ 0 (some_number c.in_err-vstore-in-13.field-0.0)) refl) _ c.in_err-vstore-in-13.ensures))
 
-pub returns-in-15 : goal.returns-in-15
+pub returns-in_ok-vstore-in-13 : goal.returns-in_ok-vstore-in-13
 unfolding effect_of refusals_of
-returns-in-15 c = let a = c.args in told (pstore_is a.kind a.w c.in-15.is refl refl refl c.private_store_offset.ensures.0) (lane_store_arm _ Private _ a.w _ a.g.now a.h.now a.x.now a.s.now a.v.now (contents a.d.now a.l.now) _ c.requires.0.lent.long c.requires.0.lent.room c.on_if-in-15.ensures _ c.vstore-in-15.ensures)
+returns-in_ok-vstore-in-13 c =
+    let a = c.args in
+    told (vstore_is a.kind a.w c.in-13.is refl refl refl c.imm_s.ensures.0)
+    (lane_store_arm _ Plain _ a.w _ a.g.now a.h.now a.x.now a.s.now a.v.now (contents a.d.now a.l.now) _ c.requires.0.lent.long c.requires.0.lent.room (refl, c.next-in-13.ensures) _ c.in_ok-vstore-in-13.ensures)
+
+pub returns-in_err-vload-in-14 : goal.returns-in_err-vload-in-14
+unfolding effect_of refusals_of
+returns-in_err-vload-in-14 c =
+    let a = c.args in
+    let e : number_of c.from_residual-in_err-vload-in-14.result ≡ refusal_of c.in_err-vload-in-14.field-0.0 = search rules in
+    rw e
+    (told (pload_is a.kind a.w c.in-14.is refl refl refl c.private_load_offset.ensures.0)
+    (lane_load_arm _ Private _ a.w _ a.g.now a.h.now a.x.now a.s.now a.v.now (contents a.d.now a.l.now) _ c.requires.0.lent.long c.requires.0.lent.room (refl, rw (ne_eqb _ 0 (some_number c.in_err-vload-in-14.field-0.0)) refl) _ c.in_err-vload-in-14.ensures))
+
+pub returns-in_ok-vload-in-14 : goal.returns-in_ok-vload-in-14
+unfolding effect_of refusals_of
+returns-in_ok-vload-in-14 c =
+    let a = c.args in
+    told (pload_is a.kind a.w c.in-14.is refl refl refl c.private_load_offset.ensures.0)
+    (lane_load_arm _ Private _ a.w _ a.g.now a.h.now a.x.now a.s.now a.v.now (contents a.d.now a.l.now) _ c.requires.0.lent.long c.requires.0.lent.room (refl, c.next-in-14.ensures) _ c.in_ok-vload-in-14.ensures)
+
+pub returns-in_err-vstore-in-15 : goal.returns-in_err-vstore-in-15
+unfolding effect_of refusals_of
+returns-in_err-vstore-in-15 c =
+    let a = c.args in
+    let e : number_of c.from_residual-in_err-vstore-in-15.result ≡ refusal_of c.in_err-vstore-in-15.field-0.0 = search rules in
+    rw e
+    (told (pstore_is a.kind a.w c.in-15.is refl refl refl c.private_store_offset.ensures.0)
+    (lane_store_arm _ Private _ a.w _ a.g.now a.h.now a.x.now a.s.now a.v.now (contents a.d.now a.l.now) _ c.requires.0.lent.long c.requires.0.lent.room (refl, rw (ne_eqb _ 0 (some_number c.in_err-vstore-in-15.field-0.0)) refl) _ c.in_err-vstore-in-15.ensures))
+
+pub returns-in_ok-vstore-in-15 : goal.returns-in_ok-vstore-in-15
+unfolding effect_of refusals_of
+returns-in_ok-vstore-in-15 c =
+    let a = c.args in
+    told (pstore_is a.kind a.w c.in-15.is refl refl refl c.private_store_offset.ensures.0)
+    (lane_store_arm _ Private _ a.w _ a.g.now a.h.now a.x.now a.s.now a.v.now (contents a.d.now a.l.now) _ c.requires.0.lent.long c.requires.0.lent.room (refl, c.next-in-15.ensures) _ c.in_ok-vstore-in-15.ensures)
 
 pub returns-in-43 : goal.returns-in-43
 unfolding effect_of refusals_of
@@ -111,11 +163,11 @@ returns-in-49 c = let a = c.args in told (vmove_is a.kind a.w c.in-49.is refl re
 
 pub returns-in-50 : goal.returns-in-50
 unfolding effect_of refusals_of
-returns-in-50 c = let a = c.args in told (regext_is a.kind a.w c.in-50.is refl) (pended (I.RegExt (imm_i (fields_of a.w))) reg_ext (imm_i (fields_of a.w)) _ a.g.now a.h.now a.x.now a.s.now a.v.now (contents a.d.now a.l.now) _ c.pend.ensures.0 (c.pend.ensures.1 a.g.now a.x.now a.s.now c.requires.0.lent.room) refl refl)
+returns-in-50 c = let a = c.args in told (regext_is a.kind a.w c.in-50.is refl) (pended (I.RegExt (imm_i (fields_of a.w))) reg_ext (imm_i (fields_of a.w)) _ a.g.now a.h.now a.x.now a.s.now a.v.now (contents a.d.now a.l.now) _ refl (c.pend.ensures a.g.now a.x.now a.s.now c.requires.0.lent.room) refl refl)
 
 pub returns-in-51 : goal.returns-in-51
 unfolding effect_of refusals_of
-returns-in-51 c = let a = c.args in told (regexti_is a.kind a.w c.in-51.is refl) (pended (I.RegExtI (imm_i (fields_of a.w))) reg_ext_i (imm_i (fields_of a.w)) _ a.g.now a.h.now a.x.now a.s.now a.v.now (contents a.d.now a.l.now) _ c.pend-in-51.ensures.0 (c.pend-in-51.ensures.1 a.g.now a.x.now a.s.now c.requires.0.lent.room) refl refl)
+returns-in-51 c = let a = c.args in told (regexti_is a.kind a.w c.in-51.is refl) (pended (I.RegExtI (imm_i (fields_of a.w))) reg_ext_i (imm_i (fields_of a.w)) _ a.g.now a.h.now a.x.now a.s.now a.v.now (contents a.d.now a.l.now) _ refl (c.pend-in-51.ensures a.g.now a.x.now a.s.now c.requires.0.lent.room) refl refl)
 
 pub returns-in-52 : goal.returns-in-52
 unfolding effect_of refusals_of

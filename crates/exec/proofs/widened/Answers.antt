@@ -7,7 +7,7 @@ use Rattle.exec.proofs.Laws.{prefix_bits, widens_none, widens_so}
 use Rattle.exec.proofs.widened.Goals as goal
 
 pub returns-then-kind-eq0 : goal.returns-then-kind-eq0
-returns-then-kind-eq0 c = let a = c.args in rw c.plain-alone.ensures (widens_none (prefix_in a.h.now) a.w (omega arith) c.if-kind-eq0.true)
+returns-then-kind-eq0 c = let a = c.args in rw c.plain.ensures (widens_none (prefix_in a.h.now) a.w (omega arith) c.if-kind-eq0.true)
 
 pub returns : goal.returns
 returns c =

@@ -12,4 +12,4 @@ returns-then-w-gt-SPLITS c = sym (deep_malformed _ c.if-w-gt-SPLITS.true)
 pub returns : goal.returns
 returns c =
     let long : length c.args.w.splits ≡ split_count = search (rules, mapped) in
-    c.words_ok.ensures ∙ apart_formed c.args.w long c.if-w-gt-SPLITS.false _ _ _ c.fixed_of-g.ensures c.moving_of-h.ensures c.flat-s.ensures
+    c.words_ok.ensures ∙ apart_formed c.args.w long c.if-w-gt-SPLITS.false _ c.of.ensures

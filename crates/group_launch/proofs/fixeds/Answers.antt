@@ -1,11 +1,10 @@
-use Prim.Native.Nat.{ℕ}
-use mathlib.Core.Path.{subst}
-use native.Mathlib.Nat.{le_antisymm}
-use Rattle.group_launch.proofs.Laws.{Fixing, fixing_all}
+use mathlib.Core.Path.{◌≡◌}
+use native.Mathlib.Omega.{arith}
+use lib.ListN.{length}
+use Rattle.group_launch.proofs.Laws.{fixing_all}
 use Rattle.group_launch.proofs.fixeds.Goals as goal
 
 pub returns : goal.returns
 returns c =
-    let a = c.args in
-    fixing_all a.n c.loop-i.gs a.cards.now
-    (subst (λ (m : ℕ). Fixing m c.loop-i.gs a.cards.now) (le_antisymm c.loop-i.invariant.0 c.loop-i-test.false) c.loop-i.invariant.2)
+    let e : c.loop-i.i ≡ length c.args.ws.now = omega arith in
+    fixing_all (length c.args.ws.now) c.loop-i.ws c.args.cards.now c.loop-i.auto.ws (rw e at c.loop-i.invariant)

@@ -1,4 +1,4 @@
-use Prim.Native.Nat.{ℕ, ◌+◌, ◌-◌, ◌*◌, ◌≤◌}
+use Prim.Native.Nat.{ℕ, ◌+◌, ◌*◌}
 use mathlib.Core.Path.{◌≡◌}
 use mathlib.Core.List.{List, ◌∷◌}
 use lib.ListN.{length, take}
@@ -13,7 +13,4 @@ abbrev pub words : List ℕ → ℕ → List ℕ
 words cards i = words_of (launched_of (reading_at cards i).launch)
 
 abbrev pub invariant-loop-i : goal.invariant-loop-i
-invariant-loop-i l = (l.i ≤ l.n) × (length l.state ≡ length l.initial.state) × (take (1 + l.i * 241) l.state ≡ 0 ∷ joined l.i (words l.cards))
-
-abbrev pub decreases-loop-i : goal.decreases-loop-i
-decreases-loop-i l = l.n - l.i
+invariant-loop-i l = (length l.state ≡ length l.initial.state) × (take (1 + l.i * 241) l.state ≡ 0 ∷ joined l.i (words l.cards))

@@ -16,7 +16,7 @@ use Rattle.group_print.proofs.print_group.Goals as goal
 pub returns-then-cards-gt-CARDS_BYTES : goal.returns-then-cards-gt-CARDS_BYTES
 returns-then-cards-gt-CARDS_BYTES c =
     let a = c.args in
-    let p = puts_as (too_many a.cards.now a.kernel.now a.bytes.now a.local.now c.if-cards-gt-CARDS_BYTES.true) c.put_code_line.ensures.0 in
+    let p = puts_as (too_many a.cards.now a.kernel.now a.bytes.now a.local.now c.if-cards-gt-CARDS_BYTES.true ∙ ap code_line (sym c.number.ensures)) c.put_code_line.ensures.0 in
     (counted p (omega (arith, c.put_code_line.ensures.1)) c.requires, p)
 
 pub returns-then-not-files_ok : goal.returns-then-not-files_ok

@@ -17,15 +17,15 @@ part_long i n s h l = length-take-le 241 (drop (1 + i * 241) s) (let d = length-
 pub loop-i-init : goal.loop-i-init
 loop-i-init c =
     let some : 0 < length c.args.state.now = omega (arith, c.requires.1) in
-    (omega arith, refl, put_none c.args.state.now _ _ some)
+    (refl, put_none c.args.state.now _ _ some)
 
 pub loop-i-preserved : goal.loop-i-preserved
 loop-i-preserved c =
-    let long : length c.loop-i.state ≡ 1 + c.args.n * 241 = c.loop-i.invariant.1 ∙ length-set c.args.state.now 0 c.args.turn ∙ c.requires.1 in
+    let n = length c.args.ws.now in
+    let long : length c.loop-i.state ≡ 1 + n * 241 = c.loop-i.invariant.0 ∙ length-set c.args.state.now 0 c.args.turn ∙ c.requires.1 in
     let piece : length c.put.new.state ≡ length (take (1 + c.loop-i.i * 241 + 241 - (1 + c.loop-i.i * 241)) (drop (1 + c.loop-i.i * 241) c.loop-i.state)) = c.put.auto.state in
     let i = c.loop-i.i in
     let y = rw (sized i) at piece in (
-      omega arith,
-      rw (sized i) (length_part (1 + i * 241) 241 c.loop-i.state c.put.new.state y ∙ c.loop-i.invariant.1),
-      rw (sized i) (put_more _ _ _ i _ c.loop-i.invariant.2 _ c.put.ensures (y ∙ part_long i c.args.n c.loop-i.state c.loop-i-test.true long)),
+      rw (sized i) (length_part (1 + i * 241) 241 c.loop-i.state c.put.new.state y ∙ c.loop-i.invariant.0),
+      rw (sized i) (put_more _ _ _ i _ c.loop-i.invariant.1 _ c.put.ensures (y ∙ part_long i n c.loop-i.state c.loop-i-test.true long)),
     )

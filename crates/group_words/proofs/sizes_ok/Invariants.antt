@@ -1,4 +1,3 @@
-use Prim.Native.Nat.{◌-◌, ◌≤◌}
 use mathlib.Core.Path.{◌≡◌}
 use mathlib.Core.Bool.{true}
 use Rattle.memory.specs.Memories.{contents}
@@ -7,7 +6,4 @@ use Rattle.group_words.proofs.Testing.{own_ok}
 use Rattle.group_words.proofs.sizes_ok.Given as goal
 
 abbrev pub invariant-loop-i : goal.invariant-loop-i
-invariant-loop-i l = (l.i ≤ l.n) × (all_below l.i (own_ok l.n l.gs l.kernel l.vector (contents l.bytes l.local)) ≡ true)
-
-abbrev pub decreases-loop-i : goal.decreases-loop-i
-decreases-loop-i l = l.n - l.i
+invariant-loop-i l = all_below l.i (own_ok l.ws l.kernel l.vector (contents l.bytes l.local)) ≡ true

@@ -13,4 +13,4 @@ use Rattle.handlers.proofs.auipc.Goals as goal
 
 pub returns : goal.returns
 unfolding effect_of refusals_of warp_of
-returns c = let a = c.args in let f = fields_of a.w in λ g s v d n. given (I.Auipc (xd_in a.w) (imm_u f)) (xd_in a.w) _ _ g a.h.now a.x.now s v d _ _ c.gives.ensures.0 (c.gives.ensures.1 g s n) refl (ap (λ (z : ℕ). goes (puts_in (xd_in a.w) z (warp_of g a.h.now a.x.now s))) (sym (c.add-y.ensures ∙ ap (λ (z : ℕ). add_of (pc_in a.h.now) (z * 4096)) c.imm_u.ensures.0)))
+returns c = let a = c.args in let f = fields_of a.w in λ g s v d n. given (I.Auipc (xd_in a.w) (imm_u f)) (xd_in a.w) _ _ g a.h.now a.x.now s v d _ _ refl (c.gives.ensures g s n) refl (ap (λ (z : ℕ). goes (puts_in (xd_in a.w) z (warp_of g a.h.now a.x.now s))) (sym (c.add-y.ensures ∙ ap (λ (z : ℕ). add_of (pc_in a.h.now) (z * 4096)) c.imm_u.ensures.0)))

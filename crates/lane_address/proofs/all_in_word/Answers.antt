@@ -1,8 +1,8 @@
+use Rattle.std.proofs.Common.{rules}
 use Rattle.isa.specs.declared.Space.TheVariants as spaces
 use Rattle.lanes.specs.Mask.{bit}
 use Rattle.lanes.specs.Lanes.{lane_of}
 use Rattle.memory.specs.Address.{in_word}
-use Rattle.memory.proofs.Access.{none_fails}
 use Rattle.memory.proofs.Laws.{plain_in_word}
 use Rattle.lane_address.proofs.all_in_word.Goals as goal
 
@@ -14,4 +14,4 @@ returns-in-Plain c =
 pub returns-in-Private : goal.returns-in-Private
 returns-in-Private c =
     let g = c.args in
-    rw c.in-Private.is (none_fails (λ l. in_word spaces.Private g.w (lane_of g.v.now g.r l) g.off) g.n g.mask c.crossing.result c.requires.0 c.crossing.ensures)
+    rw c.in-Private.is (c.all_active.ensures (λ l. in_word spaces.Private g.w (lane_of g.v.now g.r l) g.off) (λ l t h e. search rules))

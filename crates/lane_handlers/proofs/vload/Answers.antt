@@ -13,8 +13,14 @@ returns-then-some_crosses c =
       file = refl;
     }
 
+pub returns-then-not-load_lanes : goal.returns-then-not-load_lanes
+returns-then-not-load_lanes c =
+    let a = c.args in
+    loaded_row a.space a.off a.mask a.w a.g.now a.v.now (contents a.d.now a.l.now) c.lane_addresses-o.result c.threads-n.ensures c.lane_addresses-o.ensures (rw c.if-not-load_lanes.true refl) c.load_op-k.ensures c.vd.ensures.0
+    (not_crossed a.space _ a.off a.mask a.w a.g.now a.v.now (contents a.d.now a.l.now) c.size.ensures.0 c.some_crosses.ensures c.if-some_crosses.false) c.load_lanes.ensures
+
 pub returns : goal.returns
 returns c =
     let a = c.args in
-    loaded_row a.space a.off a.mask a.w a.g.now a.v.now (contents a.d.now a.l.now) c.lane_addresses-o.result c.threads-n.ensures c.lane_addresses-o.ensures c.inside_number.ensures c.load_op-k.ensures c.vd.ensures.0
+    loaded_row a.space a.off a.mask a.w a.g.now a.v.now (contents a.d.now a.l.now) c.lane_addresses-o.result c.threads-n.ensures c.lane_addresses-o.ensures (rw c.if-not-load_lanes.false refl) c.load_op-k.ensures c.vd.ensures.0
     (not_crossed a.space _ a.off a.mask a.w a.g.now a.v.now (contents a.d.now a.l.now) c.size.ensures.0 c.some_crosses.ensures c.if-some_crosses.false) c.load_lanes.ensures

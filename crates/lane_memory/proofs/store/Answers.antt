@@ -31,31 +31,29 @@ module _ (l mask : ℕ) (k : StoreOp) (o x : List ℕ) (base : ℕ) (d t : List 
       ∙ all_inside_at n (bit mask) (inside_of (memory base d) (width_of k)) (at o) all (lane l) h on
 
 pub loop-l-init : goal.loop-l-init
-loop-l-init c = (omega arith, λ near e. each_none _ _ _)
+loop-l-init c = λ near e. each_none _ _ _
 
 pub put_at-requires : goal.put_at-requires
 put_at-requires c =
     let g = c.args in
-    inside_now c.loop-l.l g.mask g.k g.o.now g.x.now g.base g.d.now c.loop-l.d c.loop-l.invariant.1 g.n c.requires.1 (omega arith) (sym c.active.ensures ∙ c.if-active.true)
+    inside_now c.loop-l.l g.mask g.k g.o.now g.x.now g.base g.d.now c.loop-l.d c.loop-l.invariant g.n c.requires.1 (omega arith) (sym c.active.ensures ∙ c.if-active.true)
 
 pub loop-l-preserved : goal.loop-l-preserved
 loop-l-preserved c =
     let g = c.args in
     let on = bit g.mask in
     let l = lane c.loop-l.l in
-    let below : c.loop-l.l < g.n = omega arith in (
-      omega arith,
-      λ near e.
-          let step : Lane → Contents → Contents = λ l u. store_to g.k (at g.o.now l) (at g.x.now l) (memories g.base near u) in
-          elim c.if-active.branch [
-            | then-active w ↦
-                let active = sym c.active.ensures ∙ w.if-active.true in
-                each_on on step (contents g.d.now e) c.loop-l.l (contents c.loop-l.d e) (contents c.if-active.d e) active
-                (ap (λ (d : List ℕ). contents d e) (w.d-is ∙ w.put_at.ensures)
-                ∙ sym (store_data (memories g.base near (contents c.loop-l.d e)) (at g.o.now l) g.k (at g.x.now l)
-                (inside_now c.loop-l.l g.mask g.k g.o.now g.x.now g.base g.d.now c.loop-l.d c.loop-l.invariant.1 g.n c.requires.1 below active)))
-                (c.loop-l.invariant.1 near e)
-            | else-active w ↦
-                each_off on step (contents g.d.now e) c.loop-l.l (contents c.if-active.d e) (sym c.active.ensures ∙ w.if-active.false) (ap (λ (d : List ℕ). contents d e) w.d-is ∙ c.loop-l.invariant.1 near e)
-          ],
-    )
+    let below : c.loop-l.l < g.n = omega arith in
+    λ near e.
+    let step : Lane → Contents → Contents = λ l u. store_to g.k (at g.o.now l) (at g.x.now l) (memories g.base near u) in
+    elim c.if-active.branch [
+      | then-active w ↦
+          let active = sym c.active.ensures ∙ w.if-active.true in
+          each_on on step (contents g.d.now e) c.loop-l.l (contents c.loop-l.d e) (contents c.if-active.d e) active
+          (ap (λ (d : List ℕ). contents d e) (w.d-is ∙ w.put_at.ensures)
+          ∙ sym (store_data (memories g.base near (contents c.loop-l.d e)) (at g.o.now l) g.k (at g.x.now l)
+          (inside_now c.loop-l.l g.mask g.k g.o.now g.x.now g.base g.d.now c.loop-l.d c.loop-l.invariant g.n c.requires.1 below active)))
+          (c.loop-l.invariant near e)
+      | else-active w ↦
+          each_off on step (contents g.d.now e) c.loop-l.l (contents c.if-active.d e) (sym c.active.ensures ∙ w.if-active.false) (ap (λ (d : List ℕ). contents d e) w.d-is ∙ c.loop-l.invariant near e)
+    ]

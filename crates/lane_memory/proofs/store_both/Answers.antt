@@ -32,7 +32,7 @@ module _ (l mask : ℕ) (k : StoreOp) (o x : List ℕ) (base near : ℕ) (first 
       ap₂ ◌||◌ (same Data) (same Local)
 
 pub loop-l-init : goal.loop-l-init
-loop-l-init c = (omega arith, each_none _ _ _)
+loop-l-init c = each_none _ _ _
 
 pub put_one-requires : goal.put_one-requires
 put_one-requires c =
@@ -41,8 +41,8 @@ put_one-requires c =
     let w = width_of g.k in
     let first = contents g.d.now g.local.now in
     let now = contents c.loop-l.d c.loop-l.local in (
-      fits c.loop-l.l g.mask g.k g.o.now g.x.now g.base g.near first now c.loop-l.invariant.1 c.requires.1,
-      same_inside c.loop-l.l g.mask g.k g.o.now g.x.now g.base g.near first now c.loop-l.invariant.1 w a
+      fits c.loop-l.l g.mask g.k g.o.now g.x.now g.base g.near first now c.loop-l.invariant c.requires.1,
+      same_inside c.loop-l.l g.mask g.k g.o.now g.x.now g.base g.near first now c.loop-l.invariant w a
           ∙ all_inside_at g.n (bit g.mask) (inside_one (memories g.base g.near first) w) (at g.o.now) c.requires.2 (lane c.loop-l.l) (omega arith) (sym c.active.ensures ∙ c.if-active.true),
     )
 
@@ -52,11 +52,9 @@ loop-l-preserved c =
     let on = bit g.mask in
     let first = contents g.d.now g.local.now in
     let now = contents c.loop-l.d c.loop-l.local in
-    let step : Lane → Contents → Contents = λ l u. store_to g.k (at g.o.now l) (at g.x.now l) (memories g.base g.near u) in (
-      omega arith,
-      elim c.if-active.branch [
-        | then-active w ↦ each_on on step first c.loop-l.l now (contents c.if-active.d c.if-active.local) (sym c.active.ensures ∙ w.if-active.true)
-            (ap₂ contents w.d-is w.local-is ∙ w.put_one.ensures) c.loop-l.invariant.1
-        | else-active w ↦ each_off on step first c.loop-l.l (contents c.if-active.d c.if-active.local) (sym c.active.ensures ∙ w.if-active.false) (ap₂ contents w.d-is w.local-is ∙ c.loop-l.invariant.1)
-      ],
-    )
+    let step : Lane → Contents → Contents = λ l u. store_to g.k (at g.o.now l) (at g.x.now l) (memories g.base g.near u) in
+    elim c.if-active.branch [
+      | then-active w ↦ each_on on step first c.loop-l.l now (contents c.if-active.d c.if-active.local) (sym c.active.ensures ∙ w.if-active.true)
+          (ap₂ contents w.d-is w.local-is ∙ w.put_one.ensures) c.loop-l.invariant
+      | else-active w ↦ each_off on step first c.loop-l.l (contents c.if-active.d c.if-active.local) (sym c.active.ensures ∙ w.if-active.false) (ap₂ contents w.d-is w.local-is ∙ c.loop-l.invariant)
+    ]

@@ -1,7 +1,9 @@
 use mathlib.Core.Path.{refl, ap, ◌∙◌}
 use mathlib.Core.Bool.{Bool, not, cond}
 use mathlib.Core.List.{[], ◌∷◌}
+use native.Mathlib.Omega.{arith}
 use lib.Dec.{eqb}
+use Rattle.answer.specs.Answer.{number_of}
 use Rattle.answer.specs.Rows.{◌⇒◌, first}
 use Rattle.lanes.specs.Mask.{bit}
 use Rattle.lanes.specs.Lanes.{lane_of}
@@ -22,8 +24,8 @@ returns c =
     record {
       code = c.stored.ensures.code
           ∙ ap (λ (t : Bool). first (9 ⇒ not (all_inside g.n on (inside_one m (width_of g.k)) o) ∷ 15 ⇒ not t ∷ []))
-          (agree_only g.n on g.k o o _ (lane_of g.v.now g.src) (λ l h t. refl) (λ l h t. c.get.ensures.1 l h));
+          (agree_only g.n on g.k o o _ (lane_of g.v.now g.src) (λ l h t. refl) (λ l h t. c.row-x.ensures.1 l (omega arith)));
       bytes = c.stored.ensures.bytes
-          ∙ ap (λ (e : Contents). cond (eqb c.stored.result 0) e m.bytes)
-          (store_only g.n on m o o (λ l h t. refl) g.k _ (lane_of g.v.now g.src) (λ l h t. c.get.ensures.1 l h));
+          ∙ ap (λ (e : Contents). cond (eqb (number_of c.stored.result) 0) e m.bytes)
+          (store_only g.n on m o o (λ l h t. refl) g.k _ (lane_of g.v.now g.src) (λ l h t. c.row-x.ensures.1 l (omega arith)));
     }

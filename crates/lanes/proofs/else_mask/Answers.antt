@@ -15,6 +15,6 @@ returns c =
     let m = c.args.mask in
     let on = holds_lane c.args.c c.row-x.result c.row-y.result in
     ap (λ (o : ℕ). bit_and o m) c.hold_op.ensures
-    ∙ and_bits on c.args.n m c.requires.4
+    ∙ and_bits on c.args.n m c.requires.2
     ∙ mask_same (λ l. bit m l && on l) (wants_of c.args.v.now m c.args.c c.args.a c.args.b) c.args.n
     (λ l h. ap₂ (λ (p q : ℕ). bit m l && holds_of c.args.c p q) (c.row-x.ensures.1 l (omega arith)) (c.row-y.ensures.1 l (omega arith)))

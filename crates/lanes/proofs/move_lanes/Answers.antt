@@ -6,4 +6,4 @@ use Rattle.lanes.proofs.move_lanes.Goals as goal
 
 pub returns : goal.returns
 returns c = c.put.ensures
-    ∙ row_written c.args.mask c.args.n c.args.d (at c.operand_row-y.result) (operand_of c.args.v.now c.args.b) c.args.v.now c.requires.4 c.requires.3 c.operand_row-y.ensures.1
+    ∙ row_written c.args.mask c.args.n c.args.d (at c.operand_row-y.result) (operand_of c.args.v.now c.args.b) c.args.v.now c.requires.2 c.requires.1 c.operand_row-y.ensures.1

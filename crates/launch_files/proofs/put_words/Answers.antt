@@ -10,4 +10,4 @@ unfolding kernel_words_of
 returns c =
     let i = c.loop-i in
     let e : i.i ≡ length c.args.kernel.now / 4 = omega arith in
-    rw (← e) i.invariant.2
+    rw (← e) i.invariant.1

@@ -1,11 +1,7 @@
 use mathlib.Core.Path.{◌≡◌}
-use Prim.Native.Nat.{◌≤◌, ◌-◌}
 use lib.ListN.{length, take}
 use Rattle.launch_files.specs.LaunchFiles.{first_words}
 use Rattle.launch_files.proofs.put_words.Given as goal
 
 abbrev pub invariant-loop-i : goal.invariant-loop-i
-invariant-loop-i l = (l.i ≤ l.n) × (length l.words ≡ length l.initial.words) × (take l.i l.words ≡ first_words l.i l.kernel)
-
-abbrev pub decreases-loop-i : goal.decreases-loop-i
-decreases-loop-i l = l.n - l.i
+invariant-loop-i l = (length l.words ≡ length l.initial.words) × (take l.i l.words ≡ first_words l.i l.kernel)

@@ -1,9 +1,10 @@
-use mathlib.Core.Path.{◌∙◌, ap}
-use lib.Seq.{paste}
-use Rattle.layout.proofs.Copies.{four_put}
+use mathlib.Core.Path.{refl}
 use borrow.Author.Rules.{rules}
+use Rattle.layout.proofs.Copies.{four_put}
 use Rattle.layout.proofs.put.Goals as goal
 
 pub returns : goal.returns
-returns c = four_put c.args.x.now c.args.s.now c.args.h.now c.args.g.now (search rules) (search rules) (search rules) (search rules) c.args.state.now _ _ _ _ c.requires
-    (c.copy.ensures ∙ ap (paste c.args.state.now 0 c.args.x.now) c.scalars-n.ensures) c.copy-2.ensures c.copy-3.ensures c.copy-4.ensures
+returns c =
+    let a = c.args in
+    rw (c.copy-4.ensures, c.copy-3.ensures, c.copy-2.ensures, c.copy.ensures)
+    (four_put a.x.now a.s.now a.h.now a.g.now a.state.now _ c.scalars-n.result (search rules) (search rules) (search rules) (search rules) c.requires c.scalars-n.ensures refl)

@@ -3,4 +3,4 @@ use Rattle.layout.proofs.together.Goals as goal
 
 pub returns : goal.returns
 unfolding warp_of
-returns c = rw (c.unflat-q.ensures, c.fixed_in-f.ensures, c.wide.ensures)
+returns c = rw (c.unflat.ensures, c.fixed_in.ensures)

@@ -1,4 +1,4 @@
-use Prim.Native.Nat.{◌≤◌, ◌-◌, ◌*◌}
+use Prim.Native.Nat.{◌-◌, ◌*◌}
 use mathlib.Core.Path.{◌≡◌}
 use lib.ListN.{length, drop}
 use lib.Seq.{sets}
@@ -7,7 +7,4 @@ use Rattle.layout.specs.Words.{split_size, splits_of, splits_in}
 use Rattle.layout.proofs.unflat.Given as goal
 
 abbrev pub invariant-loop-k : goal.invariant-loop-k
-invariant-loop-k l = (l.k ≤ split_count) × (length l.q ≡ split_count) × (sets l.q l.k (splits_of (split_count - l.k) (drop (l.k * split_size) l.s)) ≡ splits_in l.s)
-
-abbrev pub decreases-loop-k : goal.decreases-loop-k
-decreases-loop-k l = split_count - l.k
+invariant-loop-k l = (length l.q ≡ split_count) × (sets l.q l.k (splits_of (split_count - l.k) (drop (l.k * split_size) l.s)) ≡ splits_in l.s)

@@ -8,8 +8,7 @@ pub loop-i-preserved : goal.loop-i-preserved
 loop-i-preserved c =
     let a = c.args in
     let put = c.put_warp-end.ensures in (
-      omega (arith, c.loop-i-test.true),
-      puts_length put.0 ∙ c.loop-i.invariant.1,
-      puts_as (warps_more a.state.now c.loop-i.i) (puts_then c.loop-i.invariant.2 put.0),
-      omega (arith, put.1, c.loop-i.invariant.3),
+      puts_length put.0 ∙ c.loop-i.invariant.0,
+      puts_as (warps_more a.state.now c.loop-i.i) (puts_then c.loop-i.invariant.1 put.0),
+      omega (arith, put.1, c.loop-i.invariant.2),
     )

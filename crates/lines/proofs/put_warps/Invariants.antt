@@ -1,4 +1,4 @@
-use Prim.Native.Nat.{◌+◌, ◌-◌, ◌*◌, ◌≤◌}
+use Prim.Native.Nat.{◌+◌, ◌*◌, ◌≤◌}
 use mathlib.Core.Path.{◌≡◌}
 use lib.ListN.{length}
 use Rattle.text.specs.Puts.{Puts}
@@ -6,7 +6,4 @@ use Rattle.lines.specs.GroupLines.{warp_lines}
 use Rattle.lines.proofs.put_warps.Given as goal
 
 abbrev pub invariant-loop-i : goal.invariant-loop-i
-invariant-loop-i l = (l.i ≤ l.n) × (length l.out ≡ length l.initial.out) × Puts l.initial.out l.at (warp_lines l.i l.state) l.out l.end × (l.end ≤ l.at + l.i * 88)
-
-abbrev pub decreases-loop-i : goal.decreases-loop-i
-decreases-loop-i l = l.n - l.i
+invariant-loop-i l = (length l.out ≡ length l.initial.out) × Puts l.initial.out l.at (warp_lines l.i l.state) l.out l.end × (l.end ≤ l.at + l.i * 88)

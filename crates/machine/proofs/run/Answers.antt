@@ -19,6 +19,5 @@ pub returns : goal.returns
 returns c =
     let long : length c.args.w.splits ≡ split_count = search (rules, mapped) in (
       omega arith,
-      rw c.answer_of.ensures
-          (run_goes c.args.w long c.if-w-gt-SPLITS.false _ _ _ c.fixed_of-g.ensures c.moving_of-h.ensures c.flat-s.ensures _ _ _ _ _ _ _ _ c.run_words-end.ensures c.together-u.ensures),
+      run_goes c.args.w long c.if-w-gt-SPLITS.false _ c.of-words.ensures _ _ _ _ _ _ _ _ c.run_words-end.ensures.1 c.warp.ensures,
     )

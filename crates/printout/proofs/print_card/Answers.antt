@@ -1,6 +1,7 @@
 use mathlib.Core.List.{List}
 use Prim.Native.Nat.{ℕ, ◌≤◌}
-use mathlib.Core.Path.{sym, ap, ◌∙◌}
+use mathlib.Core.Path.{refl, sym, ap, ◌∙◌}
+use Rattle.answer.proofs.Numbers.{some_number}
 use native.Mathlib.Omega.{arith}
 use lib.ListN.{length}
 use Rattle.launch_files.proofs.Laws.{words_of_length, kernel_fits}
@@ -9,19 +10,19 @@ use Rattle.printout.specs.Printout.{kernel_report, put_into}
 use Rattle.printout.proofs.Cases.{files_refused, files_taken, put_report}
 use Rattle.printout.proofs.print_card.Goals as goal
 
-pub returns-then-code-ne-DONE : goal.returns-then-code-ne-DONE
-returns-then-code-ne-DONE c =
+pub returns-in-Err : goal.returns-in-Err
+returns-in-Err c =
     let put = c.put_code_line.ensures in
-    (put_report put.0 (files_refused _ _ _ _ _ c.read_files-read.ensures _ c.number-code.ensures c.if-code-ne-DONE.true), omega arith)
+    (put_report put.0 (files_refused _ _ _ _ _ (rw c.in-Err.is at c.read_files.ensures) _ c.number.ensures (λ z. some_number _ (sym c.number.ensures ∙ z))), omega arith)
 
 pub put_words-requires : goal.put_words-requires
 put_words-requires c =
-    let fits : length c.args.kernel.now ≤ kernel_bytes = kernel_fits _ _ _ _ c.read_files-read.ensures (sym c.number-code.ensures ∙ c.if-code-ne-DONE.false) in
+    let fits : length c.args.kernel.now ≤ kernel_bytes = kernel_fits _ _ _ _ (rw c.in-Ok.is at c.read_files.ensures) refl in
     omega (arith, fits)
 
 pub slice_bounds-words-end : goal.slice_bounds-words-end
 slice_bounds-words-end c =
-    let fits : length c.args.kernel.now ≤ kernel_bytes = kernel_fits _ _ _ _ c.read_files-read.ensures (sym c.number-code.ensures ∙ c.if-code-ne-DONE.false) in
+    let fits : length c.args.kernel.now ≤ kernel_bytes = kernel_fits _ _ _ _ (rw c.in-Ok.is at c.read_files.ensures) refl in
     omega (arith, fits)
 
 pub slice_bounds-print_kernel-end : goal.slice_bounds-print_kernel-end
@@ -29,11 +30,10 @@ slice_bounds-print_kernel-end c = sym (ap length c.put_words.ensures ∙ words_o
 
 pub returns : goal.returns
 returns c =
-    let read = c.read_files-read in
     let a = c.args in (
       c.print_kernel.ensures.0
           ∙ ap (put_into a.out.now)
-          (sym (files_taken _ _ _ _ _ read.ensures _ c.number-code.ensures c.if-code-ne-DONE.false
-          ∙ ap (λ (ws : List ℕ). kernel_report ws read.result.launch a.vector.now a.bytes.now) (sym c.put_words.ensures))),
+          (sym (files_taken _ _ _ _ _ (rw c.in-Ok.is at c.read_files.ensures) _ refl refl
+          ∙ ap (λ (ws : List ℕ). kernel_report ws c.in-Ok.l a.vector.now a.bytes.now) (sym c.put_words.ensures))),
       c.print_kernel.ensures.1,
     )

@@ -12,4 +12,4 @@ returns-then-w-gt-SPLITS c = save_deep _ _ c.if-state-ne-STATE_WORDS.false c.if-
 
 pub returns : goal.returns
 unfolding words_of
-returns c = ap (saving 0) (c.put.ensures ∙ rw (c.flat-s.ensures, c.moving_of-h.ensures, c.fixed_of-g.ensures)) ∙ save_done c.args.w c.args.state.now c.if-state-ne-STATE_WORDS.false c.if-w-gt-SPLITS.false
+returns c = ap (saving 0) (c.put.ensures ∙ rw c.of.ensures) ∙ save_done c.args.w c.args.state.now c.if-state-ne-STATE_WORDS.false c.if-w-gt-SPLITS.false

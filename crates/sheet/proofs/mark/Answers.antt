@@ -6,24 +6,23 @@ use Rattle.sheet.proofs.Cases.{trace_length, mark_launch, mark_sheet, mark_none,
 use Rattle.sheet.proofs.mark.Goals as goal
 
 pub returns-then-not-may_launch : goal.returns-then-not-may_launch
-returns-then-not-may_launch c = rw c.unmarked.ensures (mark_launch _ _ _ _ _ (sym c.may_launch.ensures ∙ c.if-not-may_launch.true))
+returns-then-not-may_launch c = mark_launch _ _ _ _ _ (sym c.may_launch.ensures ∙ c.if-not-may_launch.true)
 
 pub returns-then-not-sheet_ok : goal.returns-then-not-sheet_ok
 returns-then-not-sheet_ok c =
-    rw c.unmarked-then-not-sheet_ok.ensures (mark_sheet _ _ _ _ _ (sym c.may_launch.ensures ∙ c.if-not-may_launch.false) (sym c.sheet_ok.ensures ∙ c.if-not-sheet_ok.true))
+    mark_sheet _ _ _ _ _ (sym c.may_launch.ensures ∙ c.if-not-may_launch.false) (sym c.sheet_ok.ensures ∙ c.if-not-sheet_ok.true)
 
 pub returns-then-n-eq0 : goal.returns-then-n-eq0
 returns-then-n-eq0 c =
-    rw c.unmarked-then-n-eq0.ensures (mark_none _ _ _ _ _ (sym c.may_launch.ensures ∙ c.if-not-may_launch.false) (sym c.sheet_ok.ensures ∙ c.if-not-sheet_ok.false) _ _ _ _ _ c.trace_launch-n.ensures c.if-n-eq0.true)
+    mark_none _ _ _ _ _ (sym c.may_launch.ensures ∙ c.if-not-may_launch.false) (sym c.sheet_ok.ensures ∙ c.if-not-sheet_ok.false) _ _ _ _ _ c.trace_launch-n.ensures c.if-n-eq0.true
 
 pub overflow_sub-m : goal.overflow_sub-m
-overflow_sub-m c =
-    omega (arith, sheet_head _ (sym c.sheet_ok.ensures ∙ c.if-not-sheet_ok.false))
+overflow_sub-m c = omega (arith, sheet_head _ (sym c.sheet_ok.ensures ∙ c.if-not-sheet_ok.false))
 
-pub compare-found-requires : goal.compare-found-requires
-compare-found-requires c =
+pub compare-requires : goal.compare-requires
+compare-requires c =
     (c.trace_launch-n.ensures.few, omega (arith, trace_length _ _ _ _ _ _ _ c.trace_launch-n.ensures, c.trace_launch-n.ensures.few), omega (arith, sheet_head _ (sym c.sheet_ok.ensures ∙ c.if-not-sheet_ok.false)))
 
 pub returns : goal.returns
 returns c =
-    mark_done _ _ _ _ _ (sym c.may_launch.ensures ∙ c.if-not-may_launch.false) (sym c.sheet_ok.ensures ∙ c.if-not-sheet_ok.false) _ _ _ _ _ c.trace_launch-n.ensures c.if-n-eq0.false (search rules) _ c.compare-found.ensures
+    mark_done _ _ _ _ _ (sym c.may_launch.ensures ∙ c.if-not-may_launch.false) (sym c.sheet_ok.ensures ∙ c.if-not-sheet_ok.false) _ _ _ _ _ c.trace_launch-n.ensures c.if-n-eq0.false (search rules) _ c.compare.ensures

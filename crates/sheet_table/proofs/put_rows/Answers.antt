@@ -8,9 +8,9 @@ use Rattle.sheet_table.proofs.put_rows.Goals as goal
 
 pub loop-i-init : goal.loop-i-init
 unfolding table_rows
-loop-i-init c = (omega arith, refl, puts_none _ _, omega arith)
+loop-i-init c = (refl, puts_none _ _, omega arith)
 
 pub loop-i-preserved : goal.loop-i-preserved
 loop-i-preserved c =
     let i = c.loop-i in
-    (omega arith, rw c.put_row-end.ensures.0.text (simp length-sets i.invariant.1), puts_as (rows_more _ _) (puts_then i.invariant.2 c.put_row-end.ensures.0), omega arith)
+    (rw c.put_row-end.ensures.0.text (simp length-sets i.invariant.0), puts_as (rows_more _ _) (puts_then i.invariant.1 c.put_row-end.ensures.0), omega arith)

@@ -6,7 +6,4 @@ use Rattle.sheet_table.specs.SheetTable.{table_rows, row_room}
 use Rattle.sheet_table.proofs.put_rows.Given as goal
 
 abbrev pub invariant-loop-i : goal.invariant-loop-i
-invariant-loop-i l = (l.i ≤ l.n) × (length l.out ≡ length l.initial.out) × Puts l.initial.out l.at (table_rows l.i l.s) l.out l.end × (l.end ≤ l.at + row_room * l.i)
-
-abbrev pub decreases-loop-i : goal.decreases-loop-i
-decreases-loop-i l = l.n - l.i
+invariant-loop-i l = (length l.out ≡ length l.initial.out) × Puts l.initial.out l.at (table_rows l.i l.s) l.out l.end × (l.end ≤ l.at + row_room * l.i)

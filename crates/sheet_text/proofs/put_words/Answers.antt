@@ -4,22 +4,32 @@ use Rattle.text.proofs.Laws.{puts_none}
 use Rattle.sheet_text.specs.SheetText.{reason_of}
 use Rattle.sheet_text.proofs.put_words.Goals as goal
 
-pub returns-then-number-eq-SIZE : goal.returns-then-number-eq-SIZE
+pub returns-then-number : goal.returns-then-number
 unfolding reason_of
-returns-then-number-eq-SIZE c = (rw c.if-number-eq-SIZE.true c.put_text.ensures, omega arith)
+returns-then-number c = (rw (c.if-number.true, c.number.ensures) c.put_text.ensures, omega arith)
 
-pub returns-then-number-eq-BAD_CARD : goal.returns-then-number-eq-BAD_CARD
+pub returns-then-number-2 : goal.returns-then-number-2
 unfolding reason_of
-returns-then-number-eq-BAD_CARD c = (rw (ne_eqb _ 1 c.if-number-eq-SIZE.false, c.if-number-eq-BAD_CARD.true) c.put_text-then-number-eq-BAD_CARD.ensures, omega arith)
+returns-then-number-2 c =
+    (rw (ne_eqb _ 1 (rw c.number.ensures at c.if-number.false), c.if-number-2.true, c.number-2.ensures) c.put_text-then-number-2.ensures, omega arith)
 
-pub returns-then-number-eq-BAD_SHEET : goal.returns-then-number-eq-BAD_SHEET
+pub returns-then-number-3 : goal.returns-then-number-3
 unfolding reason_of
-returns-then-number-eq-BAD_SHEET c = (rw (ne_eqb _ 1 c.if-number-eq-SIZE.false, ne_eqb _ 13 c.if-number-eq-BAD_CARD.false, c.if-number-eq-BAD_SHEET.true) c.put_text-then-number-eq-BAD_SHEET.ensures, omega arith)
+returns-then-number-3 c =
+    (rw (ne_eqb _ 1 (rw c.number.ensures at c.if-number.false), ne_eqb _ 13 (rw c.number-2.ensures at c.if-number-2.false), c.if-number-3.true, c.number-3.ensures) c.put_text-then-number-3.ensures, omega arith)
 
-pub returns-then-number-eq-NO_STEPS : goal.returns-then-number-eq-NO_STEPS
+pub returns-then-number-4 : goal.returns-then-number-4
 unfolding reason_of
-returns-then-number-eq-NO_STEPS c = (rw (ne_eqb _ 1 c.if-number-eq-SIZE.false, ne_eqb _ 13 c.if-number-eq-BAD_CARD.false, ne_eqb _ 16 c.if-number-eq-BAD_SHEET.false, c.if-number-eq-NO_STEPS.true) c.put_text-then-number-eq-NO_STEPS.ensures, omega arith)
+returns-then-number-4 c = (
+  rw (ne_eqb _ 1 (rw c.number.ensures at c.if-number.false), ne_eqb _ 13 (rw c.number-2.ensures at c.if-number-2.false), ne_eqb _ 16 (rw c.number-3.ensures at c.if-number-3.false), c.if-number-4.true, c.number-4.ensures)
+      c.put_text-then-number-4.ensures,
+  omega arith,
+)
 
 pub returns : goal.returns
 unfolding reason_of
-returns c = (rw (ne_eqb _ 1 c.if-number-eq-SIZE.false, ne_eqb _ 13 c.if-number-eq-BAD_CARD.false, ne_eqb _ 16 c.if-number-eq-BAD_SHEET.false, ne_eqb _ 17 c.if-number-eq-NO_STEPS.false) (puts_none _ _), omega arith)
+returns c = (
+  rw (ne_eqb _ 1 (rw c.number.ensures at c.if-number.false), ne_eqb _ 13 (rw c.number-2.ensures at c.if-number-2.false), ne_eqb _ 16 (rw c.number-3.ensures at c.if-number-3.false), ne_eqb _ 17 (rw c.number-4.ensures at c.if-number-4.false))
+      (puts_none _ _),
+  omega arith,
+)

@@ -1,6 +1,9 @@
-use native.Mathlib.Omega.{arith}
-use Rattle.text.proofs.Laws.{text_more}
+use mathlib.Core.Path.{refl}
+use Rattle.text.proofs.Laws.{put_part}
 use Rattle.text.proofs.put_text.Goals as goal
+use native.Mathlib.Omega.{arith}
 
-pub loop-i-preserved : goal.loop-i-preserved
-loop-i-preserved c = (omega arith, rw c.loop-i.invariant.1 (text_more _ _ _ _ c.loop-i-test.true))
+pub returns : goal.returns
+returns c =
+    let s = c.args in
+    record { text = put_part s.out.now c.copy_from_slice.new.self s.text.now s.at _ c.copy_from_slice.ensures.after (omega arith) (omega (arith, c.requires)); end = refl }

@@ -1,6 +1,0 @@
--- The index below the length rises.
-use Rattle.std.proofs.Common.{length, ◌-◌}
-use Rattle.test_io.proofs.mixed_words.Given as goal
-
-abbrev pub decreases-loop-i : goal.decreases-loop-i
-decreases-loop-i l = length l.words - l.i
