@@ -3,7 +3,7 @@
 
 ghost use Rattle.std.specs.Prelude.{◌≤◌, length};
 
-use launch_files::{DATA_BYTES, KERNEL_BYTES};
+use launch_files::{DATA_BYTES, FILE_WORDS, KERNEL_BYTES};
 use printout::ROOM;
 use std::env::FillError;
 use std::fs::OpenOptions;
@@ -19,10 +19,7 @@ pub const KERNEL_BUFFER: usize = KERNEL_BYTES + 1;
 pub const DATA_BUFFER: usize = DATA_BYTES + 1;
 
 // The longest path that the system takes, and a byte to spare.
-const PATH_BUFFER: usize = 4096;
-
-// A whole vector file.
-pub const VECTOR_WORDS: usize = 8192;
+pub const PATH_BUFFER: usize = 4096;
 
 // Reads until the buffer is full, the input ends or a read fails; the answer, here and below, is the buffer's start that holds what was read.
 fn read_full<'b>(file: impl Read + Drop, buffer: &'b mut [u8]) -> &'b mut [u8]
@@ -108,7 +105,7 @@ pub fn run_files(rt: &(impl Files + Print), card: &str, kernel: &str, bytes: &st
     let mut card_buffer = [0u8; CARD_BUFFER];
     let mut kernel_buffer = [0u8; KERNEL_BUFFER];
     let mut memory = [0u8; DATA_BUFFER];
-    let mut vector = [0u32; VECTOR_WORDS];
+    let mut vector = [0u32; FILE_WORDS];
     let mut out = [0u8; ROOM];
     let card = read_file(rt, card, &mut card_buffer);
     let kernel = read_file(rt, kernel, &mut kernel_buffer);

@@ -10,21 +10,20 @@ ghost use Rattle.group_print.specs.GroupPrint.{launched_lines, cards_code, group
 
 use answer::Refusal;
 use group_words::{FILE_WORDS, WARPS};
-use launch_files::{DATA_BYTES, KERNEL_BYTES, KERNEL_WORDS};
+use launch_files::{BUDGET, DATA_BYTES, KERNEL_WORDS};
 use layout::STATE_WORDS;
 
 // The bytes that hold every printout.
 pub const ROOM: usize = 2924;
 
-pub const CARDS_BYTES: usize = 1600;
-
+// The bytes of a card.
 const CARD: usize = 50;
 
-const BUDGET: u32 = 65536;
+pub const CARDS_BYTES: usize = WARPS * CARD;
 
-const VECTOR_WORDS: usize = 262144;
+const VECTOR_WORDS: usize = WARPS * FILE_WORDS;
 
-const GROUP_WORDS: usize = 7713;
+const GROUP_WORDS: usize = 1 + WARPS * STATE_WORDS;
 
 // The lines of a launch of n cards and a run, the kernel in words.
 fn print_launched(
@@ -65,9 +64,7 @@ fn cards_code(cards: &[u8], bytes: &[u8]) -> u32
 fn files_ok(kernel: &[u8], bytes: &[u8], local: &[u8]) -> bool
     ensures { result ≡ group_files_ok kernel.now bytes.now local.now }
 {
-    (kernel.len() % 4 == 0)
-        & ((kernel.len() <= KERNEL_BYTES)
-            & ((bytes.len() <= DATA_BYTES) & (local.len() <= DATA_BYTES)))
+    launch_files::files_ok(kernel, bytes) & (local.len() <= DATA_BYTES)
 }
 
 // The lines of the four files' bytes, at the start of `out`; answers how long they are.
@@ -88,8 +85,7 @@ pub fn print_group(
         return lines::put_code_line(out, cards_code(cards, bytes));
     }
     let mut words = [0u32; KERNEL_WORDS];
-    launch_files::put_words(kernel, &mut words);
-    let k = kernel.len() / 4;
+    let kernel = launch_files::kernel_words(kernel, &mut words);
     let n = cards.len() / CARD;
     let v = n * FILE_WORDS;
     let s = 1 + n * STATE_WORDS;
@@ -97,7 +93,7 @@ pub fn print_group(
     let mut state = [0u32; GROUP_WORDS];
     print_launched(
         cards,
-        &words[..k],
+        kernel,
         &mut vector[..v],
         bytes,
         local,

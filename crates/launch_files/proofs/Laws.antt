@@ -20,14 +20,6 @@ use Rattle.launch_files.specs.LaunchFiles.{first_words, kernel_words_of, kernel_
 pub words_more : (k ws : List ℕ) (i : ℕ) → i < length ws → take i ws ≡ first_words i k → take (i + 1) (set ws i (le_at 4 k (4 * i))) ≡ first_words (i + 1) k
 words_more k ws i h e = rw (add-one, take-suc-set ws i _ h, e)
 
-words_length : (n : ℕ) (k : List ℕ) → length (first_words n k) ≡ n
-words_length zero k = refl
-words_length (suc n) k = simp length-append (omega (arith, words_length n k))
-
-pub words_of_length : (k : List ℕ) → length (kernel_words_of k) ≡ length k / 4
-unfolding kernel_words_of
-words_of_length k = words_length (length k / 4) k
-
 -- ---- the files
 
 module _ (c k d : List ℕ) (r : Reading) (e : r ≡ read_card_of c) where

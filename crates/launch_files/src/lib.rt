@@ -10,12 +10,17 @@ ghost use Rattle.launch_files.specs.LaunchFiles.{kernel_words_of, files_ok_of, r
 use answer::Refusal;
 use warp::Launch;
 
-// The programs' own limits: the bytes of a kernel file and of a data file.
+// The programs' own limits: the bytes of a kernel file and of a data file, and the steps of a run.
 pub const KERNEL_BYTES: usize = 65536;
 
 pub const DATA_BYTES: usize = 65536;
 
+pub const BUDGET: u32 = 65536;
+
 pub const KERNEL_WORDS: usize = KERNEL_BYTES / 4;
+
+// A whole vector file.
+pub const FILE_WORDS: usize = 8192;
 
 // The words of a kernel file at the start of `words`.
 pub fn put_words(kernel: &[u8], words: &mut [u32])
@@ -28,8 +33,17 @@ pub fn put_words(kernel: &[u8], words: &mut [u32])
     }
 }
 
+// Just these words, where they were put.
+pub fn kernel_words<'a>(kernel: &[u8], words: &'a mut [u32]) -> &'a [u32]
+    requires { length kernel.now / 4 ≤ length words.old }
+    ensures { result.now ≡ kernel_words_of kernel.now }
+{
+    put_words(kernel, words);
+    &words[..kernel.len() / 4]
+}
+
 // A kernel file of whole words, and both files within the limits.
-fn files_ok(kernel: &[u8], bytes: &[u8]) -> bool
+pub fn files_ok(kernel: &[u8], bytes: &[u8]) -> bool
     ensures { result ≡ files_ok_of kernel.now bytes.now }
 {
     (kernel.len() % 4 == 0) & ((kernel.len() <= KERNEL_BYTES) & (bytes.len() <= DATA_BYTES))

@@ -1,7 +1,8 @@
 // The program that makes a model sheet. Its arguments: the paths of card, kernel and data, and where the sheet is to go; without that, a table is printed.
 #![tactic(auto)]
 
-use files::{CARD_BUFFER, DATA_BUFFER, KERNEL_BUFFER, VECTOR_WORDS};
+use files::{CARD_BUFFER, DATA_BUFFER, KERNEL_BUFFER, PATH_BUFFER};
+use launch_files::FILE_WORDS;
 use sheet_lines::SHEET_ROOM;
 use sheet_table::TABLE_ROOM;
 use sheet_text::LINE_ROOM;
@@ -18,9 +19,7 @@ const DATA: usize = 3;
 
 const TARGET: usize = 4;
 
-const NAME_BUFFER: usize = 4096;
-
-const LINE_BUFFER: usize = NAME_BUFFER + LINE_ROOM;
+const LINE_BUFFER: usize = PATH_BUFFER + LINE_ROOM;
 
 // The exit status says nothing of a failure: it is told on descriptor 3.
 fn print_refusal(rt: &(impl Files + Print), number: u32) {
@@ -56,7 +55,7 @@ fn write_file(rt: &impl Files, path: &[u8], bytes: &[u8]) -> bool {
 }
 
 fn write_sheet(rt: &(impl Files + Env + Print), sheet: &[u8]) {
-    let mut name = [0u8; NAME_BUFFER];
+    let mut name = [0u8; PATH_BUFFER];
     let mut out = [0u8; LINE_BUFFER];
     let name = files::argument(rt, TARGET, &mut name);
     if write_file(rt, name, sheet) {
@@ -74,7 +73,7 @@ fn main(rt: HostRuntime) {
     let mut card = [0u8; CARD_BUFFER];
     let mut kernel = [0u8; KERNEL_BUFFER];
     let mut memory = [0u8; DATA_BUFFER];
-    let mut vector = [0u32; VECTOR_WORDS];
+    let mut vector = [0u32; FILE_WORDS];
     let mut target = [0u8; SHEET_ROOM];
     let card = files::read_argument(&rt, CARD, &mut card);
     let kernel = files::read_argument(&rt, KERNEL, &mut kernel);

@@ -6,15 +6,11 @@ ghost use Rattle.io.specs.Counts.{IsPrefixLen};
 ghost use Rattle.lines.specs.Lines.{room_needed};
 ghost use Rattle.printout.specs.Printout.{kernel_report, report_of, printed, put_into, buffers_ok_of, print_files_of};
 
-use launch_files::KERNEL_WORDS;
+use launch_files::{BUDGET, FILE_WORDS, KERNEL_WORDS};
 use warp::Launch;
 
 // The bytes that hold every printout.
 pub const ROOM: usize = 107;
-
-const FILE_WORDS: usize = 8192;
-
-const BUDGET: u32 = 65536;
 
 // The printout of a launch and a run, the kernel in words.
 fn print_kernel(
@@ -59,9 +55,8 @@ fn print_card(
         Err(why) => return lines::put_code_line(out, why.number()),
     };
     let mut words = [0u32; KERNEL_WORDS];
-    launch_files::put_words(kernel, &mut words);
-    let n = kernel.len() / 4;
-    print_kernel(l, &words[..n], vector, bytes, out)
+    let kernel = launch_files::kernel_words(kernel, &mut words);
+    print_kernel(l, kernel, vector, bytes, out)
 }
 
 // A whole vector file, and room for every printout.

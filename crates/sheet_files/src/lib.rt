@@ -10,11 +10,9 @@ ghost use Rattle.sheet.specs.Mark.{lent_runs, unmarked, marking, modelling};
 ghost use Rattle.sheet_files.specs.SheetFiles.{marked_of, modelled_of, lined, line_buffers_ok, mark_files_of};
 
 use answer::Refusal;
-use launch_files::KERNEL_WORDS;
+use launch_files::{FILE_WORDS, KERNEL_WORDS};
 use sheet::Marked;
 use sheet_lines::Marks;
-
-const FILE_WORDS: usize = 8192;
 
 // What a refused marking is worth.
 const UNMARKED: Marked = Marked {
@@ -43,12 +41,11 @@ fn mark_run(
 {
     let l = launch_files::read_files(card, kernel, bytes)?;
     let mut words = [0u32; KERNEL_WORDS];
-    launch_files::put_words(kernel, &mut words);
-    let n = kernel.len() / 4;
-    sheet::mark(l, &words[..n], vector, bytes, sheet)
+    let kernel = launch_files::kernel_words(kernel, &mut words);
+    sheet::mark(l, kernel, vector, bytes, sheet)
 }
 
-// A whole vector file, and room for every line of the name.
+// A whole vector file, and room for every line of the name. Of printout's test only `vector.len() == FILE_WORDS` is the same, which no function makes plainer.
 fn buffers_ok(vector: &[u32], name: &[u8], out: &[u8]) -> bool
     ensures { result ≡ line_buffers_ok vector.now name.now out.now }
 {
@@ -96,7 +93,6 @@ pub fn model_files(
 {
     let l = launch_files::read_files(card, kernel, bytes)?;
     let mut words = [0u32; KERNEL_WORDS];
-    launch_files::put_words(kernel, &mut words);
-    let n = kernel.len() / 4;
-    sheet::model(l, &words[..n], vector, bytes, target)
+    let kernel = launch_files::kernel_words(kernel, &mut words);
+    sheet::model(l, kernel, vector, bytes, target)
 }

@@ -1,10 +1,11 @@
 // Runs the machine on the stored cases and writes a line for each. reference/CASES-FORMAT.md says what a case file holds and what a line says.
 #![tactic(auto)]
 
+use layout::STATE_WORDS;
 use std::fs;
 use std::io::Read;
 use std::rt::Files;
-use test_io::{CARD_ROOM, DATA_ROOM, DIGEST, KERNEL_ROOM, Line, STATE_WORDS, VECTOR_ROOM};
+use test_io::{CARD_ROOM, DATA_ROOM, DIGEST, KERNEL_ROOM, Line, VECTOR_ROOM};
 
 // The longest saved state of a case.
 const STATE_ROOM: usize = 256;

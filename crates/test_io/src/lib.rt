@@ -3,13 +3,12 @@
 
 ghost use Rattle.std.specs.Prelude.{◌≤◌, length};
 
+use layout::STATE_WORDS;
 use std::io::Read;
 use std::ops::Range;
 use warp::{Fixed, Launch};
 
-// The words of a saved state, and where the open splits, the PC and the mask stand among them.
-pub const STATE_WORDS: usize = 241;
-
+// Where the open splits, the PC and the mask stand among a saved state's words.
 const OPEN_AT: usize = 219;
 
 const PC_AT: usize = 220;

@@ -6,7 +6,6 @@ use mathlib.Core.List.{List}
 use lib.ListN.{length, take, replicate}
 use Rattle.memory.specs.Memories.{contents}
 use Rattle.launch_files.specs.LaunchFiles.{kernel_bytes}
-use Rattle.launch_files.proofs.Laws.{words_of_length}
 use Rattle.text.proofs.Laws.{puts_as}
 use Rattle.lines.specs.Lines.{code_line}
 use Rattle.group_print.specs.GroupPrint.{group_files_ok, launched_lines}
@@ -26,23 +25,14 @@ returns-then-not-files_ok c =
     let p = puts_as (e ∙ ap code_line (sym c.cards_code.ensures)) c.put_code_line-then-not-files_ok.ensures.0 in
     (counted p (omega (arith, c.put_code_line-then-not-files_ok.ensures.1)) c.requires, p)
 
-pub put_words-requires : goal.put_words-requires
-put_words-requires c =
-    let taken : (let a = c.args in group_files_ok a.kernel.now a.bytes.now a.local.now) ≡ true = sym c.files_ok.ensures ∙ c.if-not-files_ok.false in
-    let fits : length c.args.kernel.now ≤ kernel_bytes = let a = c.args in kernel_fits a.cards.now a.kernel.now a.bytes.now a.local.now taken in
-    omega (arith, fits)
-
-pub slice_bounds-words-end : goal.slice_bounds-words-end
-slice_bounds-words-end c =
+pub kernel_words-kernel-requires : goal.kernel_words-kernel-requires
+kernel_words-kernel-requires c =
     let taken : (let a = c.args in group_files_ok a.kernel.now a.bytes.now a.local.now) ≡ true = sym c.files_ok.ensures ∙ c.if-not-files_ok.false in
     let fits : length c.args.kernel.now ≤ kernel_bytes = let a = c.args in kernel_fits a.cards.now a.kernel.now a.bytes.now a.local.now taken in
     omega (arith, fits)
 
 pub slice_bounds-print_launched-end : goal.slice_bounds-print_launched-end
-slice_bounds-print_launched-end c = sym (ap length c.put_words.ensures ∙ words_of_length _)
-
-pub slice_bounds-print_launched-end-2 : goal.slice_bounds-print_launched-end-2
-slice_bounds-print_launched-end-2 c =
+slice_bounds-print_launched-end c =
     prefix_long _ 262144 (omega (arith, c.if-cards-gt-CARDS_BYTES.false))
 
 pub returns : goal.returns
@@ -51,6 +41,6 @@ returns c =
     let a = c.args in
     let n : ℕ = length a.cards.now / 50 in
     let f = files_taken a.cards.now a.kernel.now a.bytes.now a.local.now c.if-cards-gt-CARDS_BYTES.false taken in
-    let g = ap (λ (ws : List ℕ). launched_lines n a.cards.now ws (take (n * 8192) (replicate 262144 0)) (contents a.bytes.now a.local.now) (take (1 + n * 241) (replicate 7713 0))) (sym c.put_words.ensures) in
+    let g = ap (λ (ws : List ℕ). launched_lines n a.cards.now ws (take (n * 8192) (replicate 262144 0)) (contents a.bytes.now a.local.now) (take (1 + n * 241) (replicate 7713 0))) (sym c.kernel_words-kernel.ensures) in
     let p = puts_as (f ∙ g) c.print_launched.ensures.0 in
     (counted p c.print_launched.ensures.1 c.requires, p)

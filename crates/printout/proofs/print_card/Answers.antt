@@ -4,7 +4,7 @@ use mathlib.Core.Path.{refl, sym, ap, ◌∙◌}
 use Rattle.answer.proofs.Numbers.{some_number}
 use native.Mathlib.Omega.{arith}
 use lib.ListN.{length}
-use Rattle.launch_files.proofs.Laws.{words_of_length, kernel_fits}
+use Rattle.launch_files.proofs.Laws.{kernel_fits}
 use Rattle.launch_files.specs.LaunchFiles.{kernel_bytes}
 use Rattle.printout.specs.Printout.{kernel_report, put_into}
 use Rattle.printout.proofs.Cases.{files_refused, files_taken, put_report}
@@ -15,18 +15,10 @@ returns-in-Err c =
     let put = c.put_code_line.ensures in
     (put_report put.0 (files_refused _ _ _ _ _ (rw c.in-Err.is at c.read_files.ensures) _ c.number.ensures (λ z. some_number _ (sym c.number.ensures ∙ z))), omega arith)
 
-pub put_words-requires : goal.put_words-requires
-put_words-requires c =
+pub kernel_words-kernel-requires : goal.kernel_words-kernel-requires
+kernel_words-kernel-requires c =
     let fits : length c.args.kernel.now ≤ kernel_bytes = kernel_fits _ _ _ _ (rw c.in-Ok.is at c.read_files.ensures) refl in
     omega (arith, fits)
-
-pub slice_bounds-words-end : goal.slice_bounds-words-end
-slice_bounds-words-end c =
-    let fits : length c.args.kernel.now ≤ kernel_bytes = kernel_fits _ _ _ _ (rw c.in-Ok.is at c.read_files.ensures) refl in
-    omega (arith, fits)
-
-pub slice_bounds-print_kernel-end : goal.slice_bounds-print_kernel-end
-slice_bounds-print_kernel-end c = sym (ap length c.put_words.ensures ∙ words_of_length _)
 
 pub returns : goal.returns
 returns c =
@@ -34,6 +26,6 @@ returns c =
       c.print_kernel.ensures.0
           ∙ ap (put_into a.out.now)
           (sym (files_taken _ _ _ _ _ (rw c.in-Ok.is at c.read_files.ensures) _ refl refl
-          ∙ ap (λ (ws : List ℕ). kernel_report ws c.in-Ok.l a.vector.now a.bytes.now) (sym c.put_words.ensures))),
+          ∙ ap (λ (ws : List ℕ). kernel_report ws c.in-Ok.l a.vector.now a.bytes.now) (sym c.kernel_words-kernel.ensures))),
       c.print_kernel.ensures.1,
     )

@@ -1,12 +1,12 @@
 use Prim.Native.Nat.{◌≤◌}
-use mathlib.Core.Path.{◌≡◌, refl, sym, ap, ◌∙◌}
+use mathlib.Core.Path.{◌≡◌, refl, ◌∙◌}
 use native.Mathlib.Omega.{arith}
 use lib.ListN.{length}
 use borrow.Author.Rules.{rules}
 use Rattle.std.specs.Prelude.{Err}
 use Rattle.answer.proofs.Numbers.{some_number}
 use Rattle.launch_files.specs.LaunchFiles.{kernel_bytes}
-use Rattle.launch_files.proofs.Laws.{words_of_length, kernel_fits}
+use Rattle.launch_files.proofs.Laws.{kernel_fits}
 use Rattle.sheet_files.proofs.Cases.{mark_refused, mark_taken}
 use Rattle.sheet_files.proofs.mark_run.Goals as goal
 
@@ -15,18 +15,10 @@ returns-in_err-l c =
     let e : c.from_residual.result ≡ Err c.in_err-l.field-0.0 = search rules in
     rw e (mark_refused _ _ _ _ _ _ c.in_err-l.ensures (some_number _))
 
-pub put_words-requires : goal.put_words-requires
-put_words-requires c =
+pub kernel_words-kernel-requires : goal.kernel_words-kernel-requires
+kernel_words-kernel-requires c =
     let fits : length c.args.kernel.now ≤ kernel_bytes = kernel_fits _ _ _ _ c.in_ok-l.ensures refl in
     omega (arith, fits)
-
-pub slice_bounds-words-end : goal.slice_bounds-words-end
-slice_bounds-words-end c =
-    let fits : length c.args.kernel.now ≤ kernel_bytes = kernel_fits _ _ _ _ c.in_ok-l.ensures refl in
-    omega (arith, fits)
-
-pub slice_bounds-mark-end : goal.slice_bounds-mark-end
-slice_bounds-mark-end c = sym (ap length c.put_words.ensures ∙ words_of_length _)
 
 pub returns : goal.returns
-returns c = c.mark.ensures ∙ mark_taken _ _ _ _ _ _ c.in_ok-l.ensures refl _ c.put_words.ensures
+returns c = c.mark.ensures ∙ mark_taken _ _ _ _ _ _ c.in_ok-l.ensures refl _ c.kernel_words-kernel.ensures
