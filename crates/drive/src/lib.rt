@@ -31,12 +31,16 @@ pub fn drive(
     requires { Started kernel.now (lists w.old.fixed w.old.moving w.old.scalars w.old.splits vector.old (contents bytes.old local.old)) }
     ensures { (w.new.fixed ≡ w.old.fixed) × Drives kernel.now n (number_of result.answer) result.steps (lists w.old.fixed w.old.moving w.old.scalars w.old.splits vector.old (contents bytes.old local.old)) (lists w.new.fixed w.new.moving w.new.scalars w.new.splits vector.new (contents bytes.new local.new)) }
 {
+    // the loop's own, so that PC and mask stay in registers (docs/SPEED.md, rule 3)
+    let mut moving = w.moving;
     for steps in 0..n {
-        let answer = exec::step(w, kernel, vector, bytes, local);
+        let answer = exec::step(&mut moving, w, kernel, vector, bytes, local);
         if answer.is_err() {
+            w.moving = moving;
             return Drove { answer, steps };
         }
     }
+    w.moving = moving;
     Drove {
         answer: Ok(()),
         steps: n,

@@ -178,23 +178,25 @@ fn use_up(h: &mut [u32; MOVING])
 
 // The tests of a step after 1 and 2, and the instruction. A run has tested the sizes and the warp once, and every step keeps them.
 // It has one caller, the loop of a run: the compiler then makes one function of loop, decoder and handlers (docs/SPEED.md).
+// The moving words are that loop's own, beside the others: those of `ws` are not looked at.
 pub fn step(
+    m: &mut [u32; MOVING],
     ws: &mut WarpWords,
     k: &[u32],
     v: &mut [u32],
     d: &mut [u8],
     l: &mut [u8],
 ) -> Result<(), Refusal>
-    requires { Started k.now (lists ws.old.fixed ws.old.moving ws.old.scalars ws.old.splits v.old (contents d.old l.old)) }
-    ensures { (ws.new.fixed ≡ ws.old.fixed) × Handles (step_of k.now) (number_of result) (lists ws.old.fixed ws.old.moving ws.old.scalars ws.old.splits v.old (contents d.old l.old)) (lists ws.new.fixed ws.new.moving ws.new.scalars ws.new.splits v.new (contents d.new l.new)) }
+    requires { Started k.now (lists ws.old.fixed m.old ws.old.scalars ws.old.splits v.old (contents d.old l.old)) }
+    ensures { (ws.new.fixed ≡ ws.old.fixed) × Handles (step_of k.now) (number_of result) (lists ws.old.fixed m.old ws.old.scalars ws.old.splits v.old (contents d.old l.old)) (lists ws.new.fixed m.new ws.new.scalars ws.new.splits v.new (contents d.new l.new)) }
 {
-    let w = fetch(&ws.moving, &ws.fixed, k)?;
-    let wide = widened(&ws.moving, w)?;
-    let kind = ws.moving[PREFIX];
-    let bits = ws.moving[BITS];
-    use_up(&mut ws.moving);
+    let w = fetch(m, &ws.fixed, k)?;
+    let wide = widened(m, w)?;
+    let kind = m[PREFIX];
+    let bits = m[BITS];
+    use_up(m);
     let done = exec(
-        &mut ws.moving,
+        m,
         &ws.fixed,
         &mut ws.scalars,
         &mut ws.splits,
@@ -205,7 +207,7 @@ pub fn step(
         wide,
     );
     if done.is_err() {
-        running::put_prefix(&mut ws.moving, kind, bits);
+        running::put_prefix(m, kind, bits);
     }
     done
 }

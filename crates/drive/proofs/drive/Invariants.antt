@@ -9,4 +9,4 @@ invariant-loop-steps l =
     let a = l.initial.w in
     let b = l.w in
     (b.fixed ≡ a.fixed)
-    × Going l.kernel l.n (lists a.fixed a.moving a.scalars a.splits l.initial.vector (contents l.initial.bytes l.initial.local)) (lists b.fixed b.moving b.scalars b.splits l.vector (contents l.bytes l.local)) l.steps
+    × Going l.kernel l.n (lists a.fixed a.moving a.scalars a.splits l.initial.vector (contents l.initial.bytes l.initial.local)) (lists b.fixed l.moving b.scalars b.splits l.vector (contents l.bytes l.local)) l.steps
