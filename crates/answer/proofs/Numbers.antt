@@ -38,7 +38,8 @@ back Clashing = refl
 back BadSheet = refl
 back NoSteps = refl
 
-refusal_one : (r s : Refusal) → refusal_of r ≡ refusal_of s → r ≡ s
+-- two refusals with one number are one refusal
+pub refusal_one : (r s : Refusal) → refusal_of r ≡ refusal_of s → r ≡ s
 refusal_one r s e = sym (back r) ∙ ap numbered e ∙ back s
 
 -- no refusal has the number 0
