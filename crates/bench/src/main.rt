@@ -2,5 +2,5 @@
 #![tactic(auto)]
 
 fn main(rt: HostRuntime) {
-    files::run_files(&rt, "card.bin", "kernel.bin", "data.bin");
+    files::run_files(&rt, b"card.bin", b"kernel.bin", b"data.bin");
 }

@@ -9,7 +9,7 @@ use std::env::FillError;
 use std::fs::OpenOptions;
 use std::io::{Read, Write};
 use std::rt::{Env, Files};
-use std::{fs, io, str};
+use std::{fs, str};
 
 // A byte to spare, by which a file that is too large is noticed.
 pub const CARD_BUFFER: usize = 51;
@@ -22,22 +22,29 @@ pub const DATA_BUFFER: usize = DATA_BYTES + 1;
 pub const PATH_BUFFER: usize = 4096;
 
 // Reads until the buffer is full, the input ends or a read fails; the answer, here and below, is the buffer's start that holds what was read.
-fn read_full<'b>(file: impl Read + Drop, buffer: &'b mut [u8]) -> &'b mut [u8]
+fn read_full<'b>(mut file: impl Read + Drop, buffer: &'b mut [u8]) -> &'b mut [u8]
     ensures { length result.now ≤ length buffer.old }
 {
-    let room = buffer.len();
-    let mut rest = &mut *buffer;
-    // Where it fails, what was read before is in the buffer all the same.
-    let _ = io::copy(&mut file.take(room as u64), &mut rest);
-    let left = rest.len();
-    &mut buffer[..room.saturating_sub(left)]
+    // By hand, since `io::copy` goes on after a read that a signal interrupts, and reads 8 KiB at a time.
+    let mut done = 0;
+    while done < buffer.len() {
+        match file.read(&mut buffer[done..]) {
+            Ok(0) | Err(_) => break,
+            Ok(n) => done += n,
+        }
+    }
+    &mut buffer[..done]
 }
 
 // A file's first bytes, as many as `buffer` holds: none where it cannot be opened, and those before the read that fails where one does.
-pub fn read_file<'b>(rt: &impl Files, path: &str, buffer: &'b mut [u8]) -> &'b mut [u8]
+pub fn read_file<'b>(rt: &impl Files, path: &[u8], buffer: &'b mut [u8]) -> &'b mut [u8]
     ensures { length result.now ≤ length buffer.old }
 {
-    match fs::open(rt, path) {
+    // A name that is not text is one that std cannot open.
+    let Ok(name) = str::from_utf8(path) else {
+        return &mut [];
+    };
+    match fs::open(rt, name) {
         Ok(file) => read_full(file, buffer),
         Err(_) => &mut [],
     }
@@ -61,15 +68,12 @@ pub fn argument_count(rt: &impl Env) -> usize {
     usize::MAX
 }
 
-// The same as `read_file` of the file that the program's argument i names. A name that is not text is one that std cannot open.
+// The same as `read_file` of the file that the program's argument i names.
 pub fn read_argument<'b>(rt: &(impl Files + Env), i: usize, buffer: &'b mut [u8]) -> &'b mut [u8]
     ensures { length result.now ≤ length buffer.old }
 {
     let mut path = [0u8; PATH_BUFFER];
-    match str::from_utf8(argument(rt, i, &mut path)) {
-        Ok(path) => read_file(rt, path, buffer),
-        Err(_) => &mut [],
-    }
+    read_file(rt, argument(rt, i, &mut path), buffer)
 }
 
 // Bytes to standard output. What a write that fails should have written is lost.
@@ -101,7 +105,7 @@ pub fn tell_failure(rt: &impl Files) {
 }
 
 // The printout of three files by name.
-pub fn run_files(rt: &(impl Files + Print), card: &str, kernel: &str, bytes: &str) {
+pub fn run_files(rt: &(impl Files + Print), card: &[u8], kernel: &[u8], bytes: &[u8]) {
     let mut card_buffer = [0u8; CARD_BUFFER];
     let mut kernel_buffer = [0u8; KERNEL_BUFFER];
     let mut memory = [0u8; DATA_BUFFER];

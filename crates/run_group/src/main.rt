@@ -13,10 +13,10 @@ fn main(rt: HostRuntime) {
     let mut bytes = [0u8; DATA_BUFFER];
     let mut local = [0u8; DATA_BUFFER];
     let mut out = [0u8; ROOM];
-    let cards = files::read_file(&rt, "cards.bin", &mut cards);
-    let kernel = files::read_file(&rt, "kernel.bin", &mut kernel);
-    let bytes = files::read_file(&rt, "data.bin", &mut bytes);
-    let local = files::read_file(&rt, "local.bin", &mut local);
+    let cards = files::read_file(&rt, b"cards.bin", &mut cards);
+    let kernel = files::read_file(&rt, b"kernel.bin", &mut kernel);
+    let bytes = files::read_file(&rt, b"data.bin", &mut bytes);
+    let local = files::read_file(&rt, b"local.bin", &mut local);
     let n = group_print::print_group(cards, kernel, bytes, local, &mut out);
     files::print_bytes(&rt, &out[..n]);
 }

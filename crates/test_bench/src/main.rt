@@ -5,9 +5,9 @@ macro_rules! cases {
     ($rt:expr; $($folder:literal),+) => {
         $(files::run_files(
             $rt,
-            concat!($folder, "/card.bin"),
-            concat!($folder, "/kernel.bin"),
-            concat!($folder, "/data.bin"),
+            concat!($folder, "/card.bin").as_bytes(),
+            concat!($folder, "/kernel.bin").as_bytes(),
+            concat!($folder, "/data.bin").as_bytes(),
         );)+
     };
 }
