@@ -2,18 +2,18 @@
 use mathlib.Core.Path.{◌≡◌, refl}
 use mathlib.Core.Bool.{Bool, true, false, not}
 use mathlib.Core.List.{List, [], ◌∷◌}
-use Prim.Native.Nat.{ℕ, zero, suc, ◌+◌, ◌*◌, ◌/◌, ◌%◌, ◌≤◌, ◌<◌}
+use Prim.Native.Nat.{ℕ, ◌+◌, ◌*◌, ◌%◌, ◌≤◌, ◌<◌}
 use native.Mathlib.Numerals.{add-one}
 use native.Mathlib.Omega.{arith}
 use lib.Dec.{eqb, leb}
 use borrow.Author.Tests.{eqb-false, ne_eqb, leb-true}
-use lib.ListN.{length, take, set, length-append}
+use lib.ListN.{length, take, set}
 use lib.Seq.{take-suc-set}
 use Rattle.answer.specs.Rows.{◌⇒◌, first, every}
 use Rattle.answer.proofs.Rows.{every_at}
 use Rattle.memory.specs.Bytes.{le_at}
 use Rattle.card.specs.Card.{Reading, reading, read_card_of}
-use Rattle.launch_files.specs.LaunchFiles.{first_words, kernel_words_of, kernel_bytes, data_bytes, files_ok_of, read_files_of}
+use Rattle.launch_files.specs.LaunchFiles.{first_words, kernel_bytes, data_bytes, files_ok_of, read_files_of}
 
 -- ---- the kernel file's words
 
@@ -23,12 +23,12 @@ words_more k ws i h e = rw (add-one, take-suc-set ws i _ h, e)
 -- ---- the files
 
 module _ (c k d : List ℕ) (r : Reading) (e : r ≡ read_card_of c) where
-  pub card_refused : (r.number ≡ 0 → ⊥) → reading r.number (read_card_of c).launch ≡ read_files_of c k d
+  pub card_refused : (r.number ≡ 0 → ⊥) → r ≡ read_files_of c k d
   unfolding read_files_of
   card_refused h = rw (← e, ne_eqb r.number 0 h)
 
   module _ (h : r.number ≡ 0) where
-    pub sizes_refused : files_ok_of k d ≡ false → reading 1 (read_card_of c).launch ≡ read_files_of c k d
+    pub sizes_refused : files_ok_of k d ≡ false → reading 1 r.launch ≡ read_files_of c k d
     unfolding read_files_of
     sizes_refused f = rw (← e, h, f)
 

@@ -2,9 +2,8 @@
 #![tactic(auto)]
 
 ghost use Rattle.std.specs.Prelude.{◌≡◌, ◌/◌, ◌≤◌, length, take};
-ghost use Rattle.std.specs.Result.{result_unwrap_or};
 ghost use Rattle.answer.specs.Answer.{number_of};
-ghost use Rattle.card.specs.Card.{reading, read_card_of};
+ghost use Rattle.card.specs.Card.{reading};
 ghost use Rattle.launch_files.specs.LaunchFiles.{kernel_words_of, files_ok_of, read_files_of};
 
 use answer::Refusal;
@@ -49,13 +48,34 @@ pub fn files_ok(kernel: &[u8], bytes: &[u8]) -> bool
     (kernel.len() % 4 == 0) & ((kernel.len() <= KERNEL_BYTES) & (bytes.len() <= DATA_BYTES))
 }
 
-// The card's launch; the card tested first, then the sizes of the other files.
-pub fn read_files(card: &[u8], kernel: &[u8], bytes: &[u8]) -> Result<Launch, Refusal>
-    ensures { reading (number_of result) (result_unwrap_or result (read_card_of card.now).launch) ≡ read_files_of card.now kernel.now bytes.now }
+// What reading the files leaves: the answer, and the card's launch, where their sizes are refused too; zeros where the card is refused.
+#[derive(Clone, Copy)]
+pub struct ReadFiles {
+    pub answer: Result<(), Refusal>,
+    pub launch: Launch,
+}
+
+// The card tested and read, then the sizes of the other files tested.
+pub fn read_files(card: &[u8], kernel: &[u8], bytes: &[u8]) -> ReadFiles
+    ensures { reading (number_of result.answer) result.launch ≡ read_files_of card.now kernel.now bytes.now }
 {
-    let l = card::read_card(card)?;
+    let launch = match card::read_card(card) {
+        Ok(l) => l,
+        Err(why) => {
+            return ReadFiles {
+                answer: Err(why),
+                launch: warp::zero_launch(),
+            };
+        }
+    };
     if !files_ok(kernel, bytes) {
-        return Err(Refusal::Size);
+        return ReadFiles {
+            answer: Err(Refusal::Size),
+            launch,
+        };
     }
-    Ok(l)
+    ReadFiles {
+        answer: Ok(()),
+        launch,
+    }
 }

@@ -50,13 +50,13 @@ fn print_card(
     requires { room_needed ≤ length out.old }
     ensures { (printed result out.new vector.new bytes.new ≡ put_into out.old (report_of card.now kernel.now vector.old bytes.old)) × (result ≤ room_needed) }
 {
-    let l = match launch_files::read_files(card, kernel, bytes) {
-        Ok(l) => l,
-        Err(why) => return lines::put_code_line(out, why.number()),
-    };
+    let read = launch_files::read_files(card, kernel, bytes);
+    if let Err(why) = read.answer {
+        return lines::put_code_line(out, why.number());
+    }
     let mut words = [0u32; KERNEL_WORDS];
     let kernel = launch_files::kernel_words(kernel, &mut words);
-    print_kernel(l, kernel, vector, bytes, out)
+    print_kernel(read.launch, kernel, vector, bytes, out)
 }
 
 // A whole vector file, and room for every printout.

@@ -39,10 +39,11 @@ fn mark_run(
 ) -> Result<Marked, Refusal>
     ensures { marking (number_of result) (result_unwrap_or result unmarked).marks (result_unwrap_or result unmarked).steps (lent_runs vector.new bytes.new) ≡ marked_of card.now kernel.now bytes.old vector.old sheet.now }
 {
-    let l = launch_files::read_files(card, kernel, bytes)?;
+    let read = launch_files::read_files(card, kernel, bytes);
+    read.answer?;
     let mut words = [0u32; KERNEL_WORDS];
     let kernel = launch_files::kernel_words(kernel, &mut words);
-    sheet::mark(l, kernel, vector, bytes, sheet)
+    sheet::mark(read.launch, kernel, vector, bytes, sheet)
 }
 
 // A whole vector file, and room for every line of the name. Of printout's test only `vector.len() == FILE_WORDS` is the same, which no function makes plainer.
@@ -91,8 +92,9 @@ pub fn model_files(
 ) -> Result<u32, Refusal>
     ensures { modelling (number_of result) (result_unwrap_or result 0) target.new (lent_runs vector.new bytes.new) ≡ modelled_of card.now kernel.now bytes.old vector.old target.old }
 {
-    let l = launch_files::read_files(card, kernel, bytes)?;
+    let read = launch_files::read_files(card, kernel, bytes);
+    read.answer?;
     let mut words = [0u32; KERNEL_WORDS];
     let kernel = launch_files::kernel_words(kernel, &mut words);
-    sheet::model(l, kernel, vector, bytes, target)
+    sheet::model(read.launch, kernel, vector, bytes, target)
 }
