@@ -3,7 +3,7 @@
 
 ghost use Rattle.std.specs.Prelude.{◌≡◌, true, ◌+◌, ◌^◌, ◌<◌, ◌≤◌};
 ghost use Rattle.lanes.specs.Mask.{bit, lane};
-ghost use Rattle.lanes.specs.Lanes.{lanes_max, ok_if};
+ghost use Rattle.lanes.specs.Lanes.{lanes_max};
 ghost use Rattle.lanes.specs.Rows.{at};
 ghost use Rattle.memory.specs.Memory.{width_of};
 ghost use Rattle.memory.specs.LaneAccess.{all_agree};
@@ -85,12 +85,12 @@ fn agree(w: u32, a: u32, x: u32, b: u32, y: u32) -> bool
     d >= w || low_same(w - d, x >> (8 * d), y)
 }
 
-// Lane l isn't in the mask, or its store agrees with that of each lane of the mask that begins in it.
+// Lane l's store agrees with that of each lane of the mask that begins in it.
 fn lane_agrees(w: u32, mask: u32, l: usize, n: usize, o: &[u32; LANES], x: &[u32; LANES]) -> bool
-    requires { (w ≤ 4) × (l < n) × (n ≤ lanes_max) × (mask < 2 ^ n) × NonePast w mask n o.now }
-    ensures { result ≡ ok_if (bit mask (lane l)) (lane_from w mask n o.now x.now (lane l)) }
+    requires { (w ≤ 4) × (l < n) × (n ≤ lanes_max) × (mask < 2 ^ n) × (at o.now (lane l) + w ≤ 2 ^ 32) }
+    ensures { result ≡ lane_from w mask n o.now x.now (lane l) }
 {
-    !active(mask, Lane(l)) || all_active(mask, n, |h| agree(w, o[l], x[l], o[h], x[h]))
+    all_active(mask, n, |h| agree(w, o[l], x[l], o[h], x[h]))
 }
 
 // Each pair of lanes, from both sides.
@@ -98,7 +98,7 @@ fn pairs_agree(w: u32, mask: u32, n: usize, o: &[u32; LANES], x: &[u32; LANES]) 
     requires { (w ≤ 4) × (n ≤ lanes_max) × (mask < 2 ^ n) × NonePast w mask n o.now }
     ensures { result ≡ pairs_from w mask n o.now x.now }
 {
-    (0..n).all(|l| lane_agrees(w, mask, l, n, o, x))
+    (0..n).all(|l| !active(mask, Lane(l)) || lane_agrees(w, mask, l, n, o, x))
 }
 
 // The stores of the lanes of the mask, the words x at the addresses o, agree.
