@@ -32,9 +32,12 @@ fn trace(start: Warp, kernel: &[u32], vector: &mut [u32], bytes: &mut [u8], t: &
     let mut w = start;
     for n in 0..STEP_LIMIT {
         let word = sheet_lines::word_on(kernel, w);
-        let Ok(u) = machine::step(w, kernel, vector, bytes) else {
+        // not by `machine::step`, whose result is copied about: a class took a fifth longer (docs/SPEED.md)
+        let end = machine::run(w, kernel, vector, bytes, 1);
+        if end.answer.is_err() {
             return n;
-        };
+        }
+        let u = end.warp;
         sheet_lines::put_line(t, HEAD_SIZE + LINE_SIZE * n, w.pc, word, u.mask, u.depth);
         w = u;
     }

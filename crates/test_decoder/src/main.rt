@@ -9,7 +9,7 @@ const MOST_WORDS: u32 = 65536;
 
 #[derive(Clone, Copy)]
 struct Parts {
-    kind: [char; 2],
+    kind: [u8; 2],
     op: u8,
     a: u8,
     b: u8,
@@ -35,18 +35,18 @@ fn source_form(s: Source) -> u32 {
     }
 }
 
-fn space_letter(s: Space) -> char {
+fn space_letter(s: Space) -> u8 {
     match s {
-        Space::Plain => 'v',
-        Space::Private => 'p',
+        Space::Plain => b'v',
+        Space::Private => b'p',
     }
 }
 
-fn mask_letter(masked: bool, letter: char) -> char {
-    if masked { 'm' } else { letter }
+fn mask_letter(masked: bool, letter: u8) -> u8 {
+    if masked { b'm' } else { letter }
 }
 
-fn line(k: char, l: char, op: u8, a: u8, b: u8, c: u8, imm: u32) -> Parts {
+fn line(k: u8, l: u8, op: u8, a: u8, b: u8, c: u8, imm: u32) -> Parts {
     Parts {
         kind: [k, l],
         op,
@@ -59,16 +59,16 @@ fn line(k: char, l: char, op: u8, a: u8, b: u8, c: u8, imm: u32) -> Parts {
 
 fn ventus(i: Instr) -> Parts {
     match i {
-        Instr::VBranch(o, a, b, n) => line('v', 'b', o as u8, 0, a.0, b.0, n as u32),
-        Instr::Join => line('j', 'n', 0, 0, 0, 0, 0),
-        Instr::SetRpc(d, a, n) => line('r', 'p', 0, d.0, a.0, 0, n as u32),
-        Instr::RegExt(n) => line('r', 'x', 0, 0, 0, 0, n as u32),
-        Instr::RegExtI(n) => line('r', 'i', 0, 0, 0, 0, n as u32),
-        Instr::EndPrg => line('e', 'p', 0, 0, 0, 0, 0),
-        Instr::Barrier(n) => line('b', 'a', 0, 0, n, 0, 0),
-        Instr::VLoad(s, o, d, a, n) => line(space_letter(s), 'l', o as u8, d.0, a.0, 0, n as u32),
-        Instr::VStore(s, o, a, b, n) => line(space_letter(s), 's', o as u8, 0, a.0, b.0, n as u32),
-        _ => line('-', '-', 0, 0, 0, 0, 0),
+        Instr::VBranch(o, a, b, n) => line(b'v', b'b', o as u8, 0, a.0, b.0, n as u32),
+        Instr::Join => line(b'j', b'n', 0, 0, 0, 0, 0),
+        Instr::SetRpc(d, a, n) => line(b'r', b'p', 0, d.0, a.0, 0, n as u32),
+        Instr::RegExt(n) => line(b'r', b'x', 0, 0, 0, 0, n as u32),
+        Instr::RegExtI(n) => line(b'r', b'i', 0, 0, 0, 0, n as u32),
+        Instr::EndPrg => line(b'e', b'p', 0, 0, 0, 0, 0),
+        Instr::Barrier(n) => line(b'b', b'a', 0, 0, n, 0, 0),
+        Instr::VLoad(s, o, d, a, n) => line(space_letter(s), b'l', o as u8, d.0, a.0, 0, n as u32),
+        Instr::VStore(s, o, a, b, n) => line(space_letter(s), b's', o as u8, 0, a.0, b.0, n as u32),
+        _ => line(b'-', b'-', 0, 0, 0, 0, 0),
     }
 }
 
@@ -79,8 +79,8 @@ fn vector(i: Instr) -> Parts {
             let b = v.vs2;
             let s = v.src;
             line(
-                mask_letter(v.masked, 'v'),
-                'e',
+                mask_letter(v.masked, b'v'),
+                b'e',
                 o as u8,
                 d.0,
                 source_field(s),
@@ -88,34 +88,39 @@ fn vector(i: Instr) -> Parts {
                 source_form(s),
             )
         }
-        Instr::VMove(d, s) => line('v', 'm', 0, d.0, source_field(s), 0, source_form(s)),
-        Instr::VMoveXS(d, b) => line('x', 's', 0, d.0, 0, b.0, 0),
-        Instr::VMoveSX(d, a) => line('s', 'x', 0, d.0, a.0, 0, 0),
-        Instr::VMerge(d, b, s) => line('m', 'g', 0, d.0, source_field(s), b.0, source_form(s)),
-        Instr::Vid(t, d) => line(mask_letter(t, 'i'), 'd', 0, d.0, 0, 0, 0),
+        Instr::VMove(d, s) => line(b'v', b'm', 0, d.0, source_field(s), 0, source_form(s)),
+        Instr::VMoveXS(d, b) => line(b'x', b's', 0, d.0, 0, b.0, 0),
+        Instr::VMoveSX(d, a) => line(b's', b'x', 0, d.0, a.0, 0, 0),
+        Instr::VMerge(d, b, s) => line(b'm', b'g', 0, d.0, source_field(s), b.0, source_form(s)),
+        Instr::Vid(t, d) => line(mask_letter(t, b'i'), b'd', 0, d.0, 0, 0, 0),
         _ => ventus(i),
     }
 }
 
 fn shown(i: Instr) -> Parts {
     match i {
-        Instr::Lui(d, n) => line('l', 'u', 0, d.0, 0, 0, n),
-        Instr::Auipc(d, n) => line('a', 'u', 0, d.0, 0, 0, n),
-        Instr::Jal(d, n) => line('j', 'l', 0, d.0, 0, 0, n),
-        Instr::Jalr(d, a, n) => line('j', 'r', 0, d.0, a.0, 0, n as u32),
-        Instr::Branch(o, a, b, n) => line('b', 'r', o as u8, 0, a.0, b.0, n as u32),
-        Instr::Load(o, d, a, n) => line('l', 'd', o as u8, d.0, a.0, 0, n as u32),
-        Instr::Store(o, a, b, n) => line('s', 't', o as u8, 0, a.0, b.0, n as u32),
-        Instr::OpImm(o, d, a, n) => line('o', 'i', o as u8, d.0, a.0, 0, n as u32),
-        Instr::OpReg(o, d, a, b) => line('o', 'r', o as u8, d.0, a.0, b.0, 0),
-        Instr::Fence(d, a, n) => line('f', 'e', 0, d, a, 0, n as u32),
-        Instr::Csr(o, d, a, n) => line('c', 'r', o as u8, d.0, a.0, 0, n as u32),
-        Instr::CsrImm(o, d, a, n) => line('c', 'i', o as u8, d.0, a, 0, n as u32),
+        Instr::Lui(d, n) => line(b'l', b'u', 0, d.0, 0, 0, n),
+        Instr::Auipc(d, n) => line(b'a', b'u', 0, d.0, 0, 0, n),
+        Instr::Jal(d, n) => line(b'j', b'l', 0, d.0, 0, 0, n),
+        Instr::Jalr(d, a, n) => line(b'j', b'r', 0, d.0, a.0, 0, n as u32),
+        Instr::Branch(o, a, b, n) => line(b'b', b'r', o as u8, 0, a.0, b.0, n as u32),
+        Instr::Load(o, d, a, n) => line(b'l', b'd', o as u8, d.0, a.0, 0, n as u32),
+        Instr::Store(o, a, b, n) => line(b's', b't', o as u8, 0, a.0, b.0, n as u32),
+        Instr::OpImm(o, d, a, n) => line(b'o', b'i', o as u8, d.0, a.0, 0, n as u32),
+        Instr::OpReg(o, d, a, b) => line(b'o', b'r', o as u8, d.0, a.0, b.0, 0),
+        Instr::Fence(d, a, n) => line(b'f', b'e', 0, d, a, 0, n as u32),
+        Instr::Csr(o, d, a, n) => line(b'c', b'r', o as u8, d.0, a.0, 0, n as u32),
+        Instr::CsrImm(o, d, a, n) => line(b'c', b'i', o as u8, d.0, a, 0, n as u32),
         _ => vector(i),
     }
 }
 
-// What a write that fails should have written is lost.
+fn digit(n: u32) -> u8 {
+    let d = (n % 16) as u8;
+    if d < 10 { 48 + d } else { 87 + d }
+}
+
+// Digits by hand: by `println!` a line took twice the time. What a write that fails should have written is lost.
 fn print(rt: &impl Print, parts: Parts) {
     let Parts {
         kind: [k, l],
@@ -125,8 +130,32 @@ fn print(rt: &impl Print, parts: Parts) {
         c,
         imm,
     } = parts;
-    let n = imm % 16777216;
-    let _ = println!(rt; "{k}{l} {op:02x} {a:02x} {b:02x} {c:02x} {n:06x}");
+    let [op, a, b, c] = [op, a, b, c].map(u32::from);
+    let text = [
+        k,
+        l,
+        b' ',
+        digit(op / 16),
+        digit(op),
+        b' ',
+        digit(a / 16),
+        digit(a),
+        b' ',
+        digit(b / 16),
+        digit(b),
+        b' ',
+        digit(c / 16),
+        digit(c),
+        b' ',
+        digit(imm / 1048576),
+        digit(imm / 65536),
+        digit(imm / 4096),
+        digit(imm / 256),
+        digit(imm / 16),
+        digit(imm),
+        b'\n',
+    ];
+    let _ = rt.write_all(&text);
 }
 
 fn main(rt: HostRuntime) {
