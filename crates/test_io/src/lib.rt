@@ -1,7 +1,8 @@
 // The parts of a stored case read, digests, and the line written for a case. reference/CASES-FORMAT.md says what a case file holds and what a line says.
 #![tactic(auto)]
 
-ghost use Rattle.std.specs.Prelude.{◌≤◌, length};
+ghost use Rattle.std.specs.Prelude.{◌≡◌, ◌≤◌, length, get_or};
+ghost use Rattle.layout.specs.Words.{state_words};
 
 use layout::STATE_WORDS;
 use std::io::Read;
@@ -219,7 +220,9 @@ pub fn mixed_lent(h: u32, vector: &[u32], bytes: &[u8]) -> u32 {
 // ---- a call's words and a case's line
 
 // The words of a call's answer, all 0 if it has not just N.
-pub fn words_of<const N: usize>(words: &[u32]) -> [u32; N] {
+pub fn words_of<const N: usize>(words: &[u32]) -> [u32; N]
+    ensures { length words.now ≡ N → result ≡ words.now }
+{
     words.try_into().unwrap_or([0; N])
 }
 
@@ -237,7 +240,9 @@ pub struct Line {
 
 impl Line {
     // With what a saved state says; as it is where that is no saved state.
-    pub fn with_state(self, state: &[u32]) -> Line {
+    pub fn with_state(self, state: &[u32]) -> Line
+        ensures { (result.number ≡ self.number) × (length state.now ≡ state_words → (result.pc ≡ get_or state.now 220 0) × (result.mask ≡ get_or state.now 221 0) × (result.splits ≡ get_or state.now 219 0)) }
+    {
         if state.len() != STATE_WORDS {
             return self;
         }
