@@ -120,7 +120,7 @@ fn digit(n: u32) -> u8 {
     if d < 10 { 48 + d } else { 87 + d }
 }
 
-// Digits by hand: by `println!` a line took twice the time. What a write that fails should have written is lost.
+// Digits by hand: by `println!` the program took 1.5 times its time. What a write that fails should have written is lost.
 fn print(rt: &impl Print, parts: Parts) {
     let Parts {
         kind: [k, l],
