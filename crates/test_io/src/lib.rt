@@ -1,7 +1,7 @@
 // The parts of a stored case read, digests, and the line written for a case. reference/CASES-FORMAT.md says what a case file holds and what a line says.
 #![tactic(auto)]
 
-ghost use Rattle.std.specs.Prelude.{◌≡◌, ◌≤◌, length, get_or};
+ghost use Rattle.std.specs.Prelude.{◌≡◌, ◌≤◌, cond, eqb, length, get_or, replicate};
 ghost use Rattle.layout.specs.Words.{state_words};
 
 use layout::STATE_WORDS;
@@ -221,7 +221,7 @@ pub fn mixed_lent(h: u32, vector: &[u32], bytes: &[u8]) -> u32 {
 
 // The words of a call's answer, all 0 if it has not just N.
 pub fn words_of<const N: usize>(words: &[u32]) -> [u32; N]
-    ensures { length words.now ≡ N → result ≡ words.now }
+    ensures { result ≡ cond (eqb (length words.now) N) words.now (replicate N 0) }
 {
     words.try_into().unwrap_or([0; N])
 }
@@ -241,7 +241,7 @@ pub struct Line {
 impl Line {
     // With what a saved state says; as it is where that is no saved state.
     pub fn with_state(self, state: &[u32]) -> Line
-        ensures { (result.number ≡ self.number) × (length state.now ≡ state_words → (result.pc ≡ get_or state.now 220 0) × (result.mask ≡ get_or state.now 221 0) × (result.splits ≡ get_or state.now 219 0)) }
+        ensures { result ≡ cond (eqb (length state.now) state_words) (record { number = self.number; code = self.code; steps = self.steps; pc = get_or state.now 220 0; mask = get_or state.now 221 0; splits = get_or state.now 219 0; last = self.last }) self }
     {
         if state.len() != STATE_WORDS {
             return self;
